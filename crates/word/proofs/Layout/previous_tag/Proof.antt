@@ -1,0 +1,26 @@
+use lib.Pow.{pow-pos}
+use Rattle.word.proofs.Laws as laws
+use Prim.Native.Nat.{ℕ, zero, _+_, _*_, _%_, _/_, _^_, _<_}
+use mathlib.Core.Path.{_≡_, ap, _∙_, sym, subst}
+use borrow.Author.Needs.{needs}
+use Rattle.word.proofs.Layout.previous_tag.Statement.{statement}
+use Rattle.word.proofs.Layout.previous_tag.Tie as tie
+use Rattle.word.proofs.Layout.previous_tag.Reads as reads
+use Rattle.word.proofs.Layout.previous_tag.Lts as lts
+use Rattle.std.proofs.num.wrapping_sub_u64.Reads as wrapping-sub-u64-reads
+use Rattle.word.proofs.Layout.tag_limit.Reads as tag-limit-reads
+
+wrapping-sub-u64-requires : tie.Need-wrapping-sub-u64-requires
+wrapping-sub-u64-requires c κs = search needs
+
+tag-limit-requires : tie.Need-tag-limit-requires
+tag-limit-requires c κs = search needs
+
+rem-result : tie.Need-rem-result
+rem-result c = rw (c .tag-limit .ensures) (pow-pos _)
+
+returns : tie.Need-returns
+returns c = rw (c .tag-limit .ensures) (laws.previous-of (c .before .before .args .self .bits) (c .before .before .pre .1) _ _ (c .before .wrapping-sub-u64 .ensures))
+
+pub previous-tag-spec : {M : Type 1} → statement M
+previous-tag-spec = tie.close (tie.spec wrapping-sub-u64-requires tag-limit-requires rem-result returns)

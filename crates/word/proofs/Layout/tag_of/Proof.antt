@@ -1,0 +1,23 @@
+use Rattle.word.specs.Word.{tagOf}
+use lib.Pow.{pow-pos}
+use Prim.Native.Nat.{ℕ, zero, _+_, _*_, _%_, _/_, _^_, _<_}
+use mathlib.Core.Path.{_≡_, ap, _∙_, sym, subst}
+use borrow.Author.Needs.{needs}
+use Rattle.word.proofs.Layout.tag_of.Statement.{statement}
+use Rattle.word.proofs.Layout.tag_of.Tie as tie
+use Rattle.word.proofs.Layout.tag_of.Reads as reads
+use Rattle.word.proofs.Layout.tag_of.Lts as lts
+use Rattle.word.proofs.Layout.value_limit.Reads as value-limit-reads
+
+value-limit-requires : tie.Need-value-limit-requires
+value-limit-requires c κs = search needs
+
+div-result : tie.Need-div-result
+div-result c = rw (c .value-limit .ensures) (pow-pos _)
+
+returns : tie.Need-returns
+unfolding tagOf
+returns c = rw (c .value-limit .ensures)
+
+pub tag-of-spec : {M : Type 1} → statement M
+tag-of-spec = tie.close (tie.spec value-limit-requires div-result returns)

@@ -1,0 +1,18 @@
+use mathlib.Core.Path.{ap, _∙_}
+use Prim.Native.Nat.{ℕ, _%_, _^_}
+use native.Mathlib.Nat.{one-mul, mod-eq-of-lt}
+use lib.Pow.{pow-lt}
+use borrow.Author.Needs.{needs}
+use Rattle.word.proofs.power_of_two.Statement.{statement}
+use Rattle.word.proofs.power_of_two.Tie as tie
+use Rattle.word.proofs.power_of_two.Reads as reads
+use Rattle.word.proofs.power_of_two.Lts as lts
+
+shl-result : tie.Need-shl-result
+shl-result c = search needs
+
+returns : tie.Need-returns
+returns c = ap (λ (x : ℕ). x % 2 ^ 64) (one-mul (2 ^ (c .args .exponent))) ∙ mod-eq-of-lt (pow-lt (c .pre))
+
+pub power-of-two-spec : {M : Type 1} → statement M
+power-of-two-spec = tie.close (tie.spec shl-result returns)

@@ -1,0 +1,18 @@
+-- Document 01, "Refusal numbers": the number of each refusal.
+use Prim.Native.Nat.{ℕ}
+use Rattle.word.specs.declared.Refusal.{Refusal}
+use Rattle.word.specs.declared.Refusal.the-variants.{SettingOutsideSizes, MemoryTooShort, NotInGoodForm, NoSuchProcess, NoSuchVariable, CallInProgress, NoOpenSequence, ValueTooGreat, ProcessIdle, RecordNotInForm, FieldNotInForm, TooManyRecords}
+
+abbrev pub number : Refusal → ℕ
+number SettingOutsideSizes = 1
+number MemoryTooShort = 2
+number NotInGoodForm = 3
+number NoSuchProcess = 4
+number NoSuchVariable = 5
+number CallInProgress = 6
+number NoOpenSequence = 7
+number ValueTooGreat = 8
+number ProcessIdle = 9
+number RecordNotInForm = 10
+number FieldNotInForm = 11
+number TooManyRecords = 12
