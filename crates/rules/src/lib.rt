@@ -108,3 +108,9 @@ pub enum OpenCount {
     Open(u32),
     Refused(Refusal),
 }
+
+// What a check of a begin, a step or a count finds: the first refusal that holds, or that all is well.
+pub enum Check {
+    Fine,
+    Refused(Refusal),
+}

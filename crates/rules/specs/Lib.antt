@@ -1,0 +1,12 @@
+pub mod Sizes
+pub mod Bounds
+pub mod Processes
+pub mod Figure4
+pub mod Figure6
+pub mod Steps
+pub mod GoodForm
+pub mod Refusals
+pub mod Entry
+pub mod Answers
+pub mod Runs
+pub mod Schedules
