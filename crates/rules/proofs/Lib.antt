@@ -4,3 +4,4 @@ pub mod Addresses
 pub mod Masks
 pub mod Held
 pub mod Schedules
+pub mod Demand3

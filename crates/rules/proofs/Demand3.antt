@@ -1,0 +1,5 @@
+-- Demand 3 and its proof, in layers.
+pub mod Change
+pub mod Accepted
+pub mod Runs
+pub mod Steps
