@@ -3,3 +3,10 @@ pub mod Change
 pub mod Accepted
 pub mod Runs
 pub mod Steps
+pub mod Machine
+pub mod Inv
+pub mod Stable
+pub mod OneStep
+pub mod KindOne
+pub mod Kinds
+pub mod Whole
