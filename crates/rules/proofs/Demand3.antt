@@ -10,3 +10,9 @@ pub mod OneStep
 pub mod KindOne
 pub mod Kinds
 pub mod Whole
+pub mod Tags
+pub mod Memory
+pub mod Keeping
+pub mod Link
+pub mod LinkOne
+pub mod LinkMany
