@@ -16,3 +16,6 @@ pub mod Keeping
 pub mod Link
 pub mod LinkOne
 pub mod LinkMany
+pub mod Follow
+pub mod Fresh
+pub mod Holds

@@ -7,7 +7,7 @@ use Prim.Native.Nat.{ℕ, _-_, _^_, _≤_, _<_}
 use lib.ListN.{length, getD}
 use Rattle.rules.specs.Entry.{setUpRule}
 use Rattle.rules.specs.Figure2.{Returned, content, truth}
-use Rattle.rules.specs.Onlooker.{Seen, seenIn, variableAt, placeOf, answerOf}
+use Rattle.rules.specs.Onlooker.{Seen, seenIn, variableAt, placeOf, answerOf, taken}
 use Rattle.rules.specs.OwnSteps.{Own, ownSteps, mostSteps}
 use Rattle.rules.specs.Processes.{isIdle}
 use Rattle.rules.specs.Runs.{State, Event, begin, step, entry, fresh, run}
@@ -87,7 +87,8 @@ inSequence (ReadsHeader c value) = true
 -- there since the first step of its load. A process that has stopped may be overtaken any number of times.
 abbrev pub Short : State → ℕ → List Event → ℕ → Type 0
 Short s b events me =
-    inSequence (placeOf (run s events) me) ≡ true
+    taken (answerOf (step me) (run s events)) ≡ true
+    → inSequence (placeOf (run s events) me) ≡ true
     → length (seenIn s events (variableAt (placeOf (run s events) me)) .since me) ≤ 2 ^ b - 2
 
 unfoldable pub AllShort : State → ℕ → List Event → Type 0
