@@ -19,3 +19,4 @@ pub mod LinkMany
 pub mod Follow
 pub mod Fresh
 pub mod Holds
+pub mod Shown

@@ -7,7 +7,7 @@ use Prim.Native.Nat.{ℕ, _-_, _^_, _≤_, _<_}
 use lib.ListN.{length, getD}
 use Rattle.rules.specs.Entry.{setUpRule}
 use Rattle.rules.specs.Figure2.{Returned, content, truth}
-use Rattle.rules.specs.Onlooker.{Seen, seenIn, variableAt, placeOf, answerOf, taken}
+use Rattle.rules.specs.Onlooker.{Seen, seenIn, variableAt, placeOf, answerOf, taken, noteOf, stores}
 use Rattle.rules.specs.OwnSteps.{Own, ownSteps, mostSteps}
 use Rattle.rules.specs.Processes.{isIdle}
 use Rattle.rules.specs.Runs.{State, Event, begin, step, entry, fresh, run}
@@ -106,6 +106,9 @@ pub record AnswersRight (Premise : Turn → Type 0) : Type 0 where
       (d : ℕ → ℕ) × (due t ≡ content d) × ((i : ℕ) → i < t .settings .w → answered t i ≡ d i)
   pub yes-is-atomic : (t : Turn) → Premise t → answer t ≡ Yes → due t ≡ truth true
   pub no-is-atomic : (t : Turn) → Premise t → answer t ≡ No → due t ≡ truth false
+  -- at its successful swap, or at the step that found the difference, a store is to Figure 2's SC what it is to the board
+  pub store-counts : (t : Turn) → Premise t → taken (answer t) ≡ true → (new : ℕ → ℕ) (swapped : Bool) →
+      noteOf (step (t .me)) (before t) ≡ stores new swapped → due t ≡ truth swapped
   -- each "no" has a successful store by another process to that variable since the first step of the LL that last opened
   -- the sequence
   pub no-has-another : (t : Turn) → Premise t → answer t ≡ No → Another (t .me) (since t)

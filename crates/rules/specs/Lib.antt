@@ -14,3 +14,4 @@ pub mod Figure2
 pub mod Onlooker
 pub mod OwnSteps
 pub mod Demand3
+pub mod Demand3Runs

@@ -1,12 +1,11 @@
 -- What an event that the board takes tells of the board: its sizes, its good form, and the process. Assumes nothing.
-use mathlib.Core.Path.{_≡_, refl, sym, _∙_}
+use mathlib.Core.Path.{_≡_, refl}
 use mathlib.Core.Bool.{Bool, true, false, not}
 use mathlib.Core.List.{List}
 use Prim.Native.Nat.{ℕ, _≤_, _<_}
 use lib.Dec.{leb, ltb}
 use lib.ListN.{length}
-use borrow.Author.Tests.{leb-false, ltb-false, not-false, not-true}
-use Rattle.rules.specs.Bounds.{Sized}
+use borrow.Author.Tests.{leb-false, ltb-false, not-false}
 use Rattle.rules.specs.GoodForm.{all, processFits, processesFit, wordsFit, inGoodForm}
 use Rattle.rules.specs.Processes.{isIdle, processAt}
 use Rattle.rules.specs.Refusals.{refuseIf, andThen, sizesCheck, processCheck, variableOf, lacksSequence, valuesRight, callCheck, beginCheck, stepCheck}
@@ -19,8 +18,7 @@ use Rattle.rules.specs.declared.Process.{Process}
 use Rattle.rules.specs.declared.Settings.{Settings}
 use Rattle.word.specs.declared.Refusal.{Refusal}
 use Rattle.word.specs.declared.Refusal.the-variants.{MemoryTooShort, SettingOutsideSizes, NotInGoodForm, NoSuchProcess, NoSuchVariable, CallInProgress, NoOpenSequence, ValueTooGreat, ProcessIdle}
-use Rattle.rules.proofs.Tests.{and-left, and-right, all-at}
-use Rattle.rules.proofs.Sized.{sized}
+use Rattle.rules.proofs.Tests.{and-left, all-at}
 
 and-then : (a b : Check) → andThen a b ≡ Fine → (a ≡ Fine) × (b ≡ Fine)
 and-then Fine b e = (refl, e)

@@ -1,23 +1,21 @@
 -- The whole board stands for a state of the machine over versions, and every begin and step keeps it so. Assumes nothing.
-use mathlib.Core.Path.{_≡_, refl, ap, sym, _∙_, subst}
-use mathlib.Core.Logic.{_≢_}
-use mathlib.Core.Bool.{Bool, true, false, cond}
+use mathlib.Core.Path.{_≡_, refl, ap, sym, _∙_}
+use mathlib.Core.Bool.{true, false, cond}
 use mathlib.Core.List.{List, [], _∷_}
-use Prim.Native.Nat.{ℕ, zero, suc, _+_, _-_, _^_, _≤_, _<_}
+use Prim.Native.Nat.{ℕ, _+_, _≤_, _<_}
 use native.Mathlib.Omega.{arith}
 use lib.ListN.{length, getD, set, length-set}
 use lib.Seq.{getD-set-same, getD-set-other}
-use borrow.Author.Tests.{eq-eqb, eqb-true, not-true, not-false}
-use lib.Dec.{eqb}
+use borrow.Author.Tests.{eq-eqb, not-false}
 use Rattle.word.specs.Word.{tagLimit}
 use Rattle.rules.specs.Bounds.{Sized}
 use Rattle.rules.specs.Demand3.{Another, inSequence}
-use Rattle.rules.specs.Entry.{refusing, stepped}
-use Rattle.rules.specs.Figure2.{change, Returned, content, truth}
+use Rattle.rules.specs.Entry.{stepped}
+use Rattle.rules.specs.Figure2.{change, content, truth}
 use Rattle.rules.specs.Figure4.{Step}
 use Rattle.rules.specs.GoodForm.{placeFits, processFits}
 use Rattle.rules.specs.Onlooker.{Seen, Note, begins, see, taken, variableAt, noteAt, newValues}
-use Rattle.rules.specs.Processes.{isIdle, isOpen, nobody, processAt}
+use Rattle.rules.specs.Processes.{isIdle, isOpen, nobody}
 use Rattle.rules.specs.Refusals.{variableOf, lacksSequence}
 use Rattle.rules.specs.Sizes.{bits}
 use Rattle.rules.specs.Steps.{firstPlace, beginning, stepFrom, processStep}
@@ -33,19 +31,18 @@ use Rattle.rules.specs.declared.Place.{Place}
 use Rattle.rules.specs.declared.Place.the-variants.{Idle, LoadReadsWord, ValidateReadsWord, StoreSwapsWord, LoadReadsHeader, ValidateReadsHeader, StoreReadsHeader, StoreAnnounces, StoreSwapsHeader, ReadsSegment, ReadsAnnounced, SwapsSegment, ReadsSegmentAgain, ReadsHeader}
 use Rattle.rules.specs.declared.Process.{Process}
 use Rattle.rules.specs.declared.Settings.{Settings}
-use Rattle.word.specs.declared.Refusal.{Refusal}
 use Rattle.rules.proofs.Held as form
-use Rattle.rules.proofs.Demand3.Accepted.{Taken, StepTaken, BeginTaken, in-form}
-use Rattle.rules.proofs.Demand3.Change.{never, change-same, change-other, change-id, change-all, change-both}
-use Rattle.rules.proofs.Demand3.Inv.{Right}
+use Rattle.rules.proofs.Demand3.Accepted.{StepTaken, BeginTaken, in-form}
+use Rattle.rules.proofs.Demand3.Change.{never, change-same, change-id, change-all, change-both}
+use Rattle.rules.proofs.Demand3.Inv.{Right, Counts}
 use Rattle.rules.proofs.Demand3.Keeping.{Held}
 use Rattle.rules.proofs.Demand3.Kinds.{width, VarInvK, PairK, FineK, firstOf, Has, past}
 use Rattle.rules.proofs.Demand3.Link.{at-place, StandsOne, one-idle, one-load, one-validate, one-store, Stands, at-idle, at-load, at-validate, at-store, at-announce, at-swap, at-segment, at-announced, at-segment-swap, at-again, at-header, StandsK, Says, says-busy, says-values, says-witness, says-yes, says-no, Linked}
 use Rattle.rules.proofs.Demand3.LinkMany.{link-many}
 use Rattle.rules.proofs.Demand3.LinkOne.{link-one}
-use Rattle.rules.proofs.Demand3.Machine.{Told, Place as Stand, idle, Sequence, Var, Put, none, Core, Out, leaves, anew, rules, acts}
+use Rattle.rules.proofs.Demand3.Machine.{Told, Place as Stand, idle, Sequence, Var, none, Core, anew, rules}
 use Rattle.rules.proofs.Demand3.Memory.{MemK, WroteK, put-kind}
-use Rattle.rules.proofs.Demand3.Runs.{begun as board-begun}
+use Rattle.rules.proofs.Demand3.Runs as runs
 use Rattle.rules.proofs.Demand3.Steps.{nearer}
 use Rattle.rules.proofs.Demand3.Whole.{Proc, State, Inv, outAt, apply, begun, fine, stepped as machine-stepped, begin-kept}
 
@@ -178,7 +175,7 @@ module _ (s : Settings) (z : Sized s) (st : State) (I : Inv (s .kind) (s .w) st)
     pub means : BoardMeans s next (a .board .processes) words (sees (variableOf call) begins (a .answer))
 
   pub begin-follows : (call : Call) (values : List ℕ) → BeginTaken board me call words →
-      BeginFollows call (board-begun board me call values)
+      BeginFollows call (runs.begun board me call values)
   begin-follows call values t =
       let x : ℕ = variableOf call in
       let mine : ProcessMeans (s .kind) s (st .procs me) q = R .process me (t .board-taken .me-in) in
@@ -206,6 +203,7 @@ module _ (s : Settings) (z : Sized s) (st : State) (I : Inv (s .kind) (s .w) st)
     pub inv : Inv (s .kind) (s .w) next
     pub means : BoardMeans s next (a .0 .board .processes) (a .1) (sees-step (a .0 .answer))
     pub right : RightAnswer (width (s .kind) (s .w)) me (sees-step (a .0 .answer) (variableAt (q .place))) (a .0 .answer) (at-place (a .0 .values))
+    pub counts : taken (a .0 .answer) ≡ true → Counts me (sees-step (a .0 .answer) (variableAt (q .place))) (noteAt (q .place) (newValues q) (a .0 .answer))
 
   pub step-follows : StepTaken board me words → (taken (processStep s q me words .0 .answer) ≡ true → inSequence (q .place) ≡ true → length (seen (variableAt (q .place)) .since me) + 2 ≤ tagLimit (bits s)) →
       StepFollows (stepped board me (processStep s q me words))
@@ -284,4 +282,5 @@ module _ (s : Settings) (z : Sized s) (st : State) (I : Inv (s .kind) (s .w) st)
         };
         right = rw seen-there (right-said (width (s .kind) (s .w)) me (outAt (s .kind) (s .w) st me (st .procs me .at) .var .seen)
             (stepFrom (q .place) s q me words .0 .values) (core .told) (stepFrom (q .place) s q me words .0 .answer) (L .says) (fine-step .right));
+        counts = λ g. rw (seen-there, L .note) (fine-step .counts);
       }

@@ -1,8 +1,8 @@
 -- A fresh board stands for the fresh machine. Assumes nothing.
 use mathlib.Core.Path.{_≡_, refl, ap, sym, _∙_}
-use mathlib.Core.Bool.{Bool, true, false}
-use mathlib.Core.List.{List, [], _∷_, _++_}
-use Prim.Native.Nat.{ℕ, zero, suc, _+_, _-_, _%_, _/_, _^_, _≤_, _<_}
+use mathlib.Core.Bool.{false}
+use mathlib.Core.List.{List, _++_}
+use Prim.Native.Nat.{ℕ, zero, suc, _%_, _^_, _≤_, _<_}
 use native.Mathlib.Nat.{zero-mod, zero-div, not-suc-le-zero, le-of-suc-le-suc}
 use native.Mathlib.Omega.{arith}
 use lib.Dec.{eqb}
@@ -16,13 +16,12 @@ use Rattle.rules.specs.Sizes.{bits, wordsUsed, usedBy}
 use Rattle.rules.specs.declared.Kind.{Kind}
 use Rattle.rules.specs.declared.Kind.the-variants.{One, Many}
 use Rattle.rules.specs.declared.Place.the-variants.{Idle}
-use Rattle.rules.specs.declared.Process.{Process}
 use Rattle.rules.specs.declared.Settings.{Settings}
 use Rattle.rules.proofs.Addresses.{header-in, segment-in, announce-in}
-use Rattle.rules.proofs.Demand3.Follow.{ProcessMeans, BoardMeans}
-use Rattle.rules.proofs.Demand3.Keeping.{Keeps, Held}
+use Rattle.rules.proofs.Demand3.Follow.{BoardMeans}
+use Rattle.rules.proofs.Demand3.Keeping.{Keeps}
 use Rattle.rules.proofs.Demand3.Link.{StandsK, one-idle, at-idle}
-use Rattle.rules.proofs.Demand3.Machine.{stamp, idle, Sequence}
+use Rattle.rules.proofs.Demand3.Machine.{stamp, idle}
 use Rattle.rules.proofs.Demand3.Memory.{MemK}
 use Rattle.rules.proofs.Demand3.Tags.{Means}
 use Rattle.rules.proofs.Demand3.Whole.{freshState}

@@ -1,26 +1,25 @@
 -- Demand 3 holds, under the window premise and under the total. Assumes nothing.
-use mathlib.Core.Path.{_≡_, refl, ap, sym, _∙_, subst}
+use mathlib.Core.Path.{_≡_, refl, sym, _∙_, subst}
 use mathlib.Core.Logic.{_≢_}
 use mathlib.Core.Bool.{Bool, true, false, cond, _&&_}
 use mathlib.Core.List.{List, [], _∷_}
-use Prim.Native.Nat.{ℕ, zero, suc, _+_, _-_, _^_, _≤_, _<_}
+use Prim.Native.Nat.{ℕ, _-_, _^_, _≤_}
 use native.Mathlib.Omega.{arith}
-use lib.ListN.{length, getD}
+use lib.ListN.{length}
 use lib.Pow.{pow-mono}
 use borrow.Author.Tests.{eq-eqb, eqb-true}
-use Rattle.word.specs.Word.{tagLimit, bitsFit}
+use Rattle.word.specs.Word.{bitsFit}
 use Rattle.rules.specs.Bounds.{Sized}
-use Rattle.rules.specs.Demand3.{Turn, answer, answered, seen as seen-of, since, Few, inSequence, Short, AllShort, InWindow, AnswersRight, Demand3, Demand3InWindow}
+use Rattle.rules.specs.Demand3.{Turn, before, answer, answered, seen as seen-of, since, Few, inSequence, AllShort, InWindow, AnswersRight, Demand3, Demand3InWindow}
 use Rattle.rules.specs.Entry.{beginRule, stepRule}
 use Rattle.rules.specs.Figure2.{change}
-use Rattle.rules.specs.Onlooker.{Seen, unseen, Note, quiet, begins, loads, checks, stores, see, taken, variableAt, placeOf, answerOf, variableIn, noteOf, watch, seenIn}
-use Rattle.rules.specs.Processes.{nobody, processAt}
+use Rattle.rules.specs.Onlooker.{Seen, Note, quiet, begins, loads, checks, stores, see, taken, variableAt, placeOf, answerOf, variableIn, noteOf, watch, seenIn}
+use Rattle.rules.specs.Processes.{processAt}
 use Rattle.rules.specs.Runs.{State, Event, begin, step, processOf, entry, after, fresh, run}
 use Rattle.rules.specs.Sizes.{bits, between, segmentsFit, settingsFit}
 use Rattle.rules.specs.declared.Answer.{Answer}
 use Rattle.rules.specs.declared.Answer.the-variants.{Value, Witness, Yes, No}
 use Rattle.rules.specs.declared.Answered.{Answered}
-use Rattle.rules.specs.declared.Board.{Board}
 use Rattle.rules.specs.declared.Call.{Call}
 use Rattle.rules.specs.declared.Kind.{Kind}
 use Rattle.rules.specs.declared.Kind.the-variants.{One, Many}
@@ -32,9 +31,9 @@ use Rattle.rules.proofs.Demand3.Accepted.{StepTaken}
 use Rattle.rules.proofs.Demand3.Change.{never, change-all}
 use Rattle.rules.proofs.Demand3.Follow.{ProcessMeans, BoardMeans, alike, RightAnswer, BeginFollows, begin-follows, StepFollows, step-follows}
 use Rattle.rules.proofs.Demand3.Fresh.{fresh-means}
-use Rattle.rules.proofs.Demand3.Kinds.{width, PairK, past, fewK}
+use Rattle.rules.proofs.Demand3.Inv.{Counts}
+use Rattle.rules.proofs.Demand3.Kinds.{width, fewK}
 use Rattle.rules.proofs.Demand3.Link.{at-place}
-use Rattle.rules.proofs.Demand3.Machine.{Var}
 use Rattle.rules.proofs.Demand3.Runs.{begin-cases, step-cases, Shaped, Fresh, fresh-of, run-shaped}
 use Rattle.rules.proofs.Demand3.Steps.{bounded}
 use Rattle.rules.proofs.Demand3.Whole.{State as Machine, Inv, freshState, fresh-inv}
@@ -50,6 +49,7 @@ record Stepped (s : Settings) (state : State) (seen : ℕ → Seen) (me : ℕ) :
   stood : Stood s (after (step me) state) (watch (step me) state seen)
   right : RightAnswer (width (s .kind) (s .w)) me (watch (step me) state seen (variableAt (placeOf state me))) (answerOf (step me) state)
       (at-place (entry (step me) state .0 .values))
+  counts : taken (answerOf (step me) state) ≡ true → Counts me (watch (step me) state seen (variableAt (placeOf state me))) (noteOf (step me) state)
 
 -- a step that is taken is in a short sequence
 abbrev ShortStep : Settings → State → (ℕ → Seen) → ℕ → Type 0
@@ -74,12 +74,12 @@ module _ (s : Settings) (z : Sized s) where
     step-by = step-cases (λ a. Short-by a → StepFollows s z (S .machine) (S .inv) processes words seen (S .means) me a)
         (record { settings = s; processes = processes }) me words
         (λ t B. step-follows s z (S .machine) (S .inv) processes words seen (S .means) me t (λ g i. omega (arith, B g i, two)))
-        (λ r B. record { next = S .machine; inv = S .inv; means = S .means; right = tt })
+        (λ r B. record { next = S .machine; inv = S .inv; means = S .means; right = tt; counts = λ g. never (sym g) })
 
     step-of : ShortStep s (stateOf s processes words) seen me → Stepped s (stateOf s processes words) seen me
     step-of B =
         let F : StepFollows s z (S .machine) (S .inv) processes words seen (S .means) me (stepRule (record { settings = s; processes = processes }) me words) = step-by B in
-        record { stood = record { machine = F .next; inv = F .inv; means = F .means }; right = F .right }
+        record { stood = record { machine = F .next; inv = F .inv; means = F .means }; right = F .right; counts = F .counts }
 
   module _ (processes : List Process) (words : List ℕ) (seen : ℕ → Seen) (me : ℕ) (call : Call) (values : List ℕ) (S : Stood s (stateOf s processes words) seen) where
     begin-of : Stood s (after (begin me call values) (stateOf s processes words)) (watch (begin me call values) (stateOf s processes words) seen)
@@ -136,6 +136,13 @@ right-in-window t A =
     let f : Fresh s (t .lent) = fresh-of s (t .lent) (t .ready) in
     rw (width-is s (f .sizes .fits)) at (right-along s (sized s (f .sizes .fits)) (t .lent) f (t .events) (t .me) A .right)
 
+counts-in-window : (t : Turn) → InWindow t → taken (answer t) ≡ true → Counts (t .me) (seen-of t) (noteOf (step (t .me)) (before t))
+unfolding seenIn
+counts-in-window t A =
+    let s : Settings = t .settings in
+    let f : Fresh s (t .lent) = fresh-of s (t .lent) (t .ready) in
+    right-along s (sized s (f .sizes .fits)) (t .lent) f (t .events) (t .me) A .counts
+
 module _ (t : Turn) (A : InWindow t) where
   right-when : (a : Answer) → answer t ≡ a → RightAnswer (t .settings .w) (t .me) (seen-of t) a (answered t)
   right-when a e = subst (λ (u : Answer). RightAnswer (t .settings .w) (t .me) (seen-of t) u (answered t)) e (right-in-window t A)
@@ -146,6 +153,8 @@ some-not-none q m l e n = let z : _≡_ {A = ℕ} 0 1 = cc in omega arith
 -- M-108's form
 pub in-window : Demand3InWindow
 in-window = record {
+  store-counts = λ t A g new swapped e.
+      subst (λ (n : Note). Counts (t .me) (seen-of t) n) e (counts-in-window t A g);
   values-are-atomic = λ t A e. right-when t A Value e .1;
   yes-is-atomic = λ t A e. right-when t A Yes e;
   no-is-atomic = λ t A e. right-when t A No e .0;
@@ -225,6 +234,7 @@ window-of-few t F =
 -- what holds under a premise holds under a stronger one
 weaken : (P Q : Turn → Type 0) → ((t : Turn) → P t → Q t) → AnswersRight Q → AnswersRight P
 weaken P Q h r = record {
+  store-counts = λ t p. r .store-counts t (h t p);
   values-are-atomic = λ t p. r .values-are-atomic t (h t p);
   yes-is-atomic = λ t p. r .yes-is-atomic t (h t p);
   no-is-atomic = λ t p. r .no-is-atomic t (h t p);

@@ -1,21 +1,15 @@
 -- The invariant of one variable, and of one process at one variable; what the others may do to it. Assumes nothing.
-use mathlib.Core.Path.{_≡_, refl, ap, sym, _∙_}
-use mathlib.Core.Logic.{_≢_, _⊎_, inl, inr}
-use mathlib.Core.Bool.{Bool, true, false, cond}
+use mathlib.Core.Path.{_≡_}
+use mathlib.Core.Logic.{_≢_, _⊎_}
+use mathlib.Core.Bool.{Bool, true, false}
 use mathlib.Core.List.{List, [], _∷_}
-use Prim.Native.Nat.{ℕ, zero, suc, _+_, _≤_, _<_}
-use native.Mathlib.Omega.{arith}
-use lib.Dec.{eqb, ltb}
+use Prim.Native.Nat.{ℕ, suc, _+_, _≤_, _<_}
+use lib.Dec.{eqb}
 use lib.ListN.{length}
-use borrow.Author.Tests.{eqb-true, eqb-false, eq-eqb, ne-eqb, ltb-true, ltb-false}
-use Rattle.rules.specs.Demand3.{Another, here, there}
-use Rattle.rules.specs.Figure2.{change, Returned, nothing, content, truth}
+use Rattle.rules.specs.Demand3.{Another}
+use Rattle.rules.specs.Figure2.{nothing, content, truth}
 use Rattle.rules.specs.Onlooker.{Note, quiet, begins, loads, checks, stores, Seen, see}
-use Rattle.rules.specs.declared.Kind.{Kind}
-use Rattle.rules.specs.declared.Kind.the-variants.{One, Many}
-use Rattle.rules.proofs.Tests.{and-left, and-right, and-both}
-use Rattle.rules.proofs.Demand3.Change.{never, change-same, change-other, change-all, change-both, each}
-use Rattle.rules.proofs.Demand3.Machine.{Versioned, stamp, same, Told, busy, values, witness, sure, Phase, readsSegment, readsAnnounced, swapsSegment, readsAgain, readsHeader, Aim, load, store, Place, idle, loadReads, validateReads, storeReads, announces, swapsHeader, copies, gather, Sequence, shut, Var, Put, none, putsHeader, putsSegment, putsRow, Core, Out, leaves, anew, goes, ends, refuses, onRead, onAnnounced, onSwap, onSegment, onSegmentSwap, through, cutShort, onHeader, rule, onWordSwap, ruleOne, rules, acts}
+use Rattle.rules.proofs.Demand3.Machine.{Versioned, Told, busy, values, witness, sure, Phase, readsSegment, readsAnnounced, swapsSegment, readsAgain, readsHeader, Aim, load, store, Place, idle, loadReads, validateReads, storeReads, announces, swapsHeader, copies, Sequence, Var}
 
 -- p is not among them
 pub data Free (p : ℕ) : List ℕ → Type 0 where
@@ -170,3 +164,11 @@ Right W p o busy = Unit {0}
 Right W p o (values g) = (o .since p ≡ []) × ((d : ℕ → ℕ) × (o .due p ≡ content d) × ((i : ℕ) → i < W → g i ≡ d i))
 Right W p o (witness q) = (m : List ℕ) × (o .since p ≡ q ∷ m)
 Right W p o (sure b) = (o .due p ≡ truth b) × (b ≡ false → Another p (o .since p))
+
+-- at the step at which a store of p counts, Figure 2 returned whether it swapped
+abbrev pub Counts : ℕ → Seen → Note → Type 0
+Counts p o quiet = Unit {0}
+Counts p o begins = Unit {0}
+Counts p o loads = Unit {0}
+Counts p o checks = Unit {0}
+Counts p o (stores new swapped) = o .due p ≡ truth swapped

@@ -1,6 +1,5 @@
 -- A process's keep-words and open sequences stand for what the machine over versions holds. Assumes nothing.
-use mathlib.Core.Path.{_≡_, refl, ap, sym, _∙_, subst}
-use mathlib.Core.Logic.{_≢_}
+use mathlib.Core.Path.{_≡_, refl, ap, sym, _∙_}
 use mathlib.Core.Bool.{Bool, true, false, cond}
 use mathlib.Core.List.{List}
 use Prim.Native.Nat.{ℕ, _+_, _-_, _*_, _/_, _%_, _^_, _≤_, _<_}
@@ -10,7 +9,7 @@ use lib.Dec.{eqb}
 use lib.ListN.{length, getD, set, length-set}
 use lib.Seq.{getD-set-same, getD-set-other}
 use lib.Pow.{pow-pos}
-use borrow.Author.Tests.{eqb-true, eqb-false, eq-eqb, ne-eqb}
+use borrow.Author.Tests.{eqb-true, eq-eqb, ne-eqb}
 use Rattle.word.specs.Word.{tagLimit}
 use Rattle.rules.specs.Figure2.{change}
 use Rattle.rules.specs.Processes.{isOpen, withOpen, withClosed}
@@ -19,7 +18,7 @@ use Rattle.rules.specs.declared.Kind.{Kind}
 use Rattle.rules.specs.declared.Kind.the-variants.{One, Many}
 use Rattle.rules.specs.declared.Settings.{Settings}
 use Rattle.rules.proofs.Masks.{opens, open-le}
-use Rattle.rules.proofs.Demand3.Change.{never, change-id, change-all, each}
+use Rattle.rules.proofs.Demand3.Change.{change-id, change-all}
 use Rattle.rules.proofs.Demand3.Machine.{stamp, Sequence, shut}
 use Rattle.rules.proofs.Demand3.Tags.{Means}
 

@@ -2,21 +2,19 @@
 use mathlib.Core.Path.{_≡_, refl, ap, sym, _∙_}
 use mathlib.Core.Logic.{_≢_, _⊎_, inl, inr}
 use mathlib.Core.Bool.{Bool, true, false, cond}
-use mathlib.Core.List.{List, [], _∷_}
-use Prim.Native.Nat.{ℕ, zero, suc, _+_, _≤_, _<_}
+use mathlib.Core.List.{[], _∷_}
+use Prim.Native.Nat.{ℕ, suc, _+_, _≤_, _<_}
 use native.Mathlib.Omega.{arith}
-use lib.Dec.{eqb, ltb}
+use lib.Dec.{eqb}
 use lib.ListN.{length}
-use borrow.Author.Tests.{eqb-true, eqb-false, eq-eqb, ne-eqb, ltb-true, ltb-false}
-use Rattle.rules.specs.Demand3.{Another, here, there}
-use Rattle.rules.specs.Figure2.{change, Returned, nothing, content, truth}
-use Rattle.rules.specs.Onlooker.{Note, quiet, begins, loads, checks, stores, Seen, see}
+use borrow.Author.Tests.{eqb-false, eq-eqb, ne-eqb}
+use Rattle.rules.specs.Demand3.{Another}
+use Rattle.rules.specs.Figure2.{nothing, content, truth}
 use Rattle.rules.specs.declared.Kind.{Kind}
-use Rattle.rules.specs.declared.Kind.the-variants.{One, Many}
-use Rattle.rules.proofs.Tests.{and-left, and-right, and-both}
-use Rattle.rules.proofs.Demand3.Change.{never, change-same, change-other, change-all, change-both, each}
-use Rattle.rules.proofs.Demand3.Machine.{Versioned, stamp, same, Told, busy, values, witness, sure, Phase, readsSegment, readsAnnounced, swapsSegment, readsAgain, readsHeader, Aim, load, store, Place, idle, loadReads, validateReads, storeReads, announces, swapsHeader, copies, gather, Sequence, shut, Var, Put, none, putsHeader, putsSegment, putsRow, Core, Out, leaves, anew, goes, ends, refuses, onRead, onAnnounced, onSwap, onSegment, onSegmentSwap, through, cutShort, onHeader, rule, onWordSwap, ruleOne, rules, acts}
-use Rattle.rules.proofs.Demand3.Inv.{Free, free[], free∷, Stays, Right}
+use Rattle.rules.specs.declared.Kind.the-variants.{One}
+use Rattle.rules.proofs.Demand3.Change.{never, change-same, change-other, each}
+use Rattle.rules.proofs.Demand3.Machine.{stamp, same, Place, idle, loadReads, validateReads, storeReads, announces, swapsHeader, copies, Sequence, Var, Out, leaves, onWordSwap, ruleOne, acts}
+use Rattle.rules.proofs.Demand3.Inv.{Free, free[], free∷, Stays, Right, Counts}
 use Rattle.rules.proofs.Demand3.OneStep.{some-other, same-true, same-false}
 
 pub record VarInv₁ (v : Var) : Type 0 where
@@ -58,6 +56,7 @@ pub record Fine₁ (p : ℕ) (v : Var) (o : Out) : Type 0 where
   pub rely : (r : ℕ) → r ≢ p → Rely₁ r v (o .var)
   pub pair : Pair₁ p (o .var) (o .row) (o .sequence) (o .place)
   pub right : Right 1 p (o .var .seen) (o .told)
+  pub counts : Counts p (o .var .seen) (o .note)
 
 opened₁ : (p : ℕ) (v v′ : Var) (s : Sequence) → Rely₁ p v v′ → Opened₁ p v s → Opened₁ p v′ s
 opened₁ p v v′ s (inl k) O = record {
@@ -102,6 +101,7 @@ module _ (p : ℕ) (v : Var) (rows : ℕ → ℕ → ℕ) (s : Sequence) (I : Va
         rely = λ r n. inr (record { by = p; else' = λ q. n (sym q); up = refl; since = refl; valid = refl });
         pair = record { seq = λ o. never (sym o); doing = tt };
         right = (change-same (v .seen .due) p (truth true), never);
+        counts = change-same (v .seen .due) p (truth true);
       })
   one-storeReads new P false e =
       let O : Opened₁ p v s = P .seq (P .doing) in
@@ -111,11 +111,12 @@ module _ (p : ℕ) (v : Var) (rows : ℕ → ℕ → ℕ) (s : Sequence) (I : Va
         rely = λ r n. inl (record { header = refl; since = refl; valid = refl });
         pair = record { seq = λ o. never (sym o); doing = tt };
         right = (change-same (v .seen .due) p (truth false), λ _. missed O e);
+        counts = change-same (v .seen .due) p (truth false);
       })
 
   pub fine₁ : (pl : Place) → Pair₁ p v (rows p) s pl → Fine₁ p v (acts One 1 p v rows s pl)
   unfolding ruleOne
-  fine₁ idle P = record { inv = I; rely = λ r n. inl (record { header = refl; since = refl; valid = refl }); pair = P; right = tt }
+  fine₁ idle P = record { inv = I; rely = λ r n. inl (record { header = refl; since = refl; valid = refl }); pair = P; right = tt; counts = tt }
   fine₁ loadReads P = record {
     inv = record { now = I .now; sum = I .sum };
     rely = λ r n. inl (record { header = refl; since = change-other (v .seen .since) p [] r n; valid = change-other (v .seen .atomic .valid) p true r n });
@@ -129,6 +130,7 @@ module _ (p : ℕ) (v : Var) (rows : ℕ → ℕ → ℕ) (s : Sequence) (I : Va
       };
       doing = tt;
     };
+    counts = tt;
     right = (change-same (v .seen .since) p [], (v .seen .atomic .current, change-same (v .seen .due) p (content (v .seen .atomic .current)), each (λ i. i < 1 → v .header .value ≡ v .seen .atomic .current i) 0 (λ _. I .now) (λ j n l. absurd (omega (arith, n)))));
   }
   fine₁ validateReads P =
@@ -137,6 +139,7 @@ module _ (p : ℕ) (v : Var) (rows : ℕ → ℕ → ℕ) (s : Sequence) (I : Va
         inv = record { now = I .now; sum = I .sum };
         rely = λ r n. inl (record { header = refl; since = refl; valid = refl });
         pair = record { seq = λ o. record { old = O .old; whole = O .whole; count = O .count; others = O .others; valid = O .valid }; doing = tt };
+        counts = tt;
         right = (change-same (v .seen .due) p (truth (v .seen .atomic .valid p)) ∙ ap truth (O .valid ∙ sym (test O)), missed O);
       }
   fine₁ (storeReads new) P = one-storeReads new P (same (v .header) (stamp (s .kept) (s .kept-value))) refl

@@ -1,25 +1,19 @@
 -- Both kinds under one name. Assumes nothing.
-use mathlib.Core.Path.{_≡_, refl, ap, sym, _∙_}
-use mathlib.Core.Logic.{_≢_, _⊎_, inl, inr}
-use mathlib.Core.Bool.{Bool, true, false, cond}
-use mathlib.Core.List.{List, [], _∷_}
-use Prim.Native.Nat.{ℕ, zero, suc, _+_, _≤_, _<_}
+use mathlib.Core.Path.{_≡_, refl, sym}
+use mathlib.Core.Logic.{_≢_, inl}
+use mathlib.Core.Bool.{Bool, true, false}
+use Prim.Native.Nat.{ℕ, suc, _≤_, _<_}
 use native.Mathlib.Omega.{arith}
-use lib.Dec.{eqb, ltb}
 use lib.ListN.{length}
-use borrow.Author.Tests.{eqb-true, eqb-false, eq-eqb, ne-eqb, ltb-true, ltb-false}
-use Rattle.rules.specs.Demand3.{Another, here, there}
-use Rattle.rules.specs.Figure2.{change, Returned, nothing, content, truth}
-use Rattle.rules.specs.Onlooker.{Note, quiet, begins, loads, checks, stores, Seen, see}
+use Rattle.rules.specs.Figure2.{nothing}
 use Rattle.rules.specs.declared.Kind.{Kind}
 use Rattle.rules.specs.declared.Kind.the-variants.{One, Many}
-use Rattle.rules.proofs.Tests.{and-left, and-right, and-both}
-use Rattle.rules.proofs.Demand3.Change.{never, change-same, change-other, change-all, change-both, each}
-use Rattle.rules.proofs.Demand3.Machine.{Versioned, stamp, same, Told, busy, values, witness, sure, Phase, readsSegment, readsAnnounced, swapsSegment, readsAgain, readsHeader, Aim, load, store, Place, idle, loadReads, validateReads, storeReads, announces, swapsHeader, copies, gather, Sequence, shut, Var, Put, none, putsHeader, putsSegment, putsRow, Core, Out, leaves, anew, goes, ends, refuses, onRead, onAnnounced, onSwap, onSegment, onSegmentSwap, through, cutShort, onHeader, rule, onWordSwap, ruleOne, rules, acts}
-use Rattle.rules.proofs.Demand3.Inv.{Free, free[], free∷, Last, last[], last∷, loading, storing, Storing, VarInv, Opened, Phased, Checked, PhaseOk, Loads, Stores, AimOk, Copying, Telling, Doing, Pair, Stays, Moves, Rely, Right}
+use Rattle.rules.proofs.Demand3.Change.{never, change-other}
+use Rattle.rules.proofs.Demand3.Machine.{Versioned, values, load, store, Place, idle, loadReads, validateReads, storeReads, announces, swapsHeader, copies, Sequence, Var, Out, anew, acts}
+use Rattle.rules.proofs.Demand3.Inv.{storing, Storing, VarInv, Doing, Pair, Rely, Right, Counts}
 use Rattle.rules.proofs.Demand3.Stable.{stable}
 use Rattle.rules.proofs.Demand3.OneStep.{Fine, step-fine, reseat}
-use Rattle.rules.proofs.Demand3.KindOne.{VarInv₁, Opened₁, Doing₁, Pair₁, Rely₁, Fine₁, stable₁, fine₁}
+use Rattle.rules.proofs.Demand3.KindOne.{VarInv₁, Doing₁, Pair₁, Rely₁, Fine₁, stable₁, fine₁}
 use Rattle.rules.specs.declared.Call.{Call}
 use Rattle.rules.specs.declared.Call.the-variants.{Load, Validate, Store}
 
@@ -44,6 +38,7 @@ pub record FineK (k : Kind) (W : ℕ) (p : ℕ) (v : Var) (o : Out) : Type 0 whe
   pub rely : (r : ℕ) → r ≢ p → RelyK k W r v (o .var)
   pub pair : PairK k W p (o .var) (o .row) (o .sequence) (o .place)
   pub right : Right (width k W) p (o .var .seen) (o .told)
+  pub counts : Counts p (o .var .seen) (o .note)
 
 pub stableK : (k : Kind) (W : ℕ) (p : ℕ) (v v′ : Var) → VarInvK k W v → VarInvK k W v′ → RelyK k W p v v′ → (s : Sequence) (row : ℕ → ℕ) (pl : Place) → PairK k W p v row s pl → PairK k W p v′ row s pl
 stableK One W p v v′ I I′ R s row pl P = stable₁ p v v′ s row pl R P
@@ -65,11 +60,11 @@ pub fineK : (k : Kind) (W : ℕ) → 0 < W → (p : ℕ) (v : Var) (rows : ℕ �
     ((q : ℕ) → PairK k W q v (rows q) (ss q) (pls q)) → FineK k W p v (acts k W p v rows (ss p) (pls p))
 fineK One W pos p v rows ss pls I all =
     let F : Fine₁ p v (acts One 1 p v rows (ss p) (pls p)) = fine₁ p v rows (ss p) I (pls p) (all p) in
-    record { inv = F .inv; rely = F .rely; pair = F .pair; right = F .right }
+    record { inv = F .inv; rely = F .rely; pair = F .pair; right = F .right; counts = F .counts }
 fineK Many W pos p v rows ss pls I all =
     let q : ℕ = v .header .value in
     let F : Fine W p v (acts Many W p v rows (ss p) (pls p)) = step-fine W p v rows (ss p) I pos (told-of W q v (rows q) (ss q) (pls q) (all q) refl) (pls p) (all p) in
-    record { inv = F .inv; rely = F .rely; pair = F .pair; right = F .right }
+    record { inv = F .inv; rely = F .rely; pair = F .pair; right = F .right; counts = F .counts }
 
 -- an idle process asks nothing of its row
 pub idle-row : (k : Kind) (W : ℕ) (p : ℕ) (v : Var) (row row′ : ℕ → ℕ) (s : Sequence) → PairK k W p v row s idle → PairK k W p v row′ s idle

@@ -1,37 +1,35 @@
 -- Kind `many`: a step of the board is the machine's. Assumes nothing.
-use mathlib.Core.Path.{_≡_, refl, ap, sym, _∙_, subst}
-use mathlib.Core.Logic.{_≢_}
+use mathlib.Core.Path.{_≡_, refl, ap, _∙_, subst}
 use mathlib.Core.Bool.{Bool, true, false, cond}
-use mathlib.Core.List.{List, [], _∷_}
-use Prim.Native.Nat.{ℕ, zero, suc, _+_, _%_, _≤_, _<_}
+use mathlib.Core.List.{List}
+use Prim.Native.Nat.{ℕ, zero, suc, _+_, _≤_, _<_}
 use native.Mathlib.Omega.{arith}
 use lib.Dec.{eqb, ltb}
 use lib.ListN.{length, getD, set, length-set}
 use lib.Seq.{getD-set-same, getD-set-other}
-use Rattle.word.specs.Word.{word, tagOf, valueOf, nextTag, previousTag, tagLimit, valueLimit}
+use Rattle.word.specs.Word.{word, tagOf, valueOf, nextTag, tagLimit, valueLimit}
 use Rattle.rules.specs.Bounds.{Sized}
 use Rattle.rules.specs.Figure2.{change}
-use Rattle.rules.specs.Figure4.{Step}
 use Rattle.rules.specs.Figure6.{newHeader, saving, copyOn, copyCutShort}
 use Rattle.rules.specs.GoodForm.{placeFits}
-use Rattle.rules.specs.Processes.{isIdle, keptOf, closing, gathering, noValues, goesOn, ends}
+use Rattle.rules.specs.Processes.{isIdle, keptOf, closing, noValues, goesOn, ends}
 use Rattle.rules.specs.Sizes.{bits, headerAt, segmentAt, announceAt, headerOf, segmentOf, announcedOf}
 use Rattle.rules.specs.Steps.{stepFrom}
-use Rattle.rules.specs.declared.Answer.the-variants.{Witness, Yes, No}
+use Rattle.rules.specs.declared.Answer.the-variants.{No}
 use Rattle.rules.specs.declared.Copy.{Copy}
 use Rattle.rules.specs.declared.Kind.the-variants.{Many}
 use Rattle.rules.specs.declared.Place.{Place}
-use Rattle.rules.specs.declared.Place.the-variants.{Idle, LoadReadsHeader, ValidateReadsHeader, StoreReadsHeader, StoreAnnounces, StoreSwapsHeader, ReadsSegment, ReadsAnnounced, SwapsSegment, ReadsSegmentAgain, ReadsHeader}
+use Rattle.rules.specs.declared.Place.the-variants.{StoreReadsHeader, StoreAnnounces, StoreSwapsHeader, ReadsSegment, ReadsAnnounced, SwapsSegment, ReadsSegmentAgain, ReadsHeader}
 use Rattle.rules.specs.declared.Process.{Process}
 use Rattle.rules.specs.declared.Settings.{Settings}
 use Rattle.rules.proofs.Addresses.{number-fits}
 use Rattle.rules.proofs.Held as form
 use Rattle.rules.proofs.Demand3.Change.{never, change-all}
-use Rattle.rules.proofs.Demand3.Inv.{isLoad, VarInv, Opened, Pair}
+use Rattle.rules.proofs.Demand3.Inv.{VarInv, Opened, Pair}
 use Rattle.rules.proofs.Demand3.Keeping.{Held, held-same, held-shut, held-opened}
 use Rattle.rules.proofs.Demand3.Kinds.{past}
 use Rattle.rules.proofs.Demand3.Link.{at-place, copyAt, Gathered, Stands, at-idle, at-load, at-validate, at-store, at-announce, at-swap, at-segment, at-announced, at-segment-swap, at-again, at-header, says-busy, says-values, says-witness, says-yes, says-no, says-sure, Linked}
-use Rattle.rules.proofs.Demand3.Machine.{Versioned, stamp, same, Aim, load, store, Phase, readsSegment, readsAnnounced, swapsSegment, readsAgain, readsHeader, Place as Stand, idle, loadReads, validateReads, storeReads, announces, swapsHeader, copies, Sequence, Var, onRead, onAnnounced, onSwap, onSegment, onSegmentSwap, onHeader, rule}
+use Rattle.rules.proofs.Demand3.Machine.{Versioned, stamp, same, Aim, load, store, Phase, readsSegment, swapsSegment, readsHeader, Place as Stand, validateReads, storeReads, swapsHeader, copies, Sequence, Var, onRead, onAnnounced, onSwap, onSegment, onSegmentSwap, onHeader, rule}
 use Rattle.rules.proofs.Demand3.Tags.{tag-test, next-tag, previous-test, Means, means-word, word-test}
 
 zeros : (j : ℕ) → _≡_ {A = ℕ} (getD noValues j 0) 0

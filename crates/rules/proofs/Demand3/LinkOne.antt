@@ -1,6 +1,5 @@
 -- Kind `one`: a step of the board is the machine's. Assumes nothing.
 use mathlib.Core.Path.{_≡_, refl, ap, sym, _∙_}
-use mathlib.Core.Logic.{_≢_}
 use mathlib.Core.Bool.{Bool, true, false, cond}
 use mathlib.Core.List.{List, [], _∷_}
 use Prim.Native.Nat.{ℕ, suc, _+_, _%_, _≤_, _<_}
@@ -9,14 +8,14 @@ use lib.Dec.{eqb}
 use lib.ListN.{length, getD, set}
 use Rattle.word.specs.Word.{tagOf, valueOf, nextTag, tagLimit, valueLimit}
 use Rattle.rules.specs.Bounds.{Sized}
-use Rattle.rules.specs.Figure4.{Step, newWord}
+use Rattle.rules.specs.Figure4.{newWord}
 use Rattle.rules.specs.Processes.{isIdle, keptOf, closing, ends}
 use Rattle.rules.specs.Sizes.{bits, wordAt, wordOf}
 use Rattle.rules.specs.Steps.{stepFrom}
 use Rattle.rules.specs.declared.Answer.the-variants.{Yes, No}
 use Rattle.rules.specs.declared.Kind.the-variants.{One}
 use Rattle.rules.specs.declared.Place.{Place}
-use Rattle.rules.specs.declared.Place.the-variants.{Idle, LoadReadsWord, ValidateReadsWord, StoreSwapsWord}
+use Rattle.rules.specs.declared.Place.the-variants.{StoreSwapsWord}
 use Rattle.rules.specs.declared.Process.{Process}
 use Rattle.rules.specs.declared.Settings.{Settings}
 use Rattle.rules.proofs.Demand3.Change.{never, each}
@@ -24,7 +23,7 @@ use Rattle.rules.proofs.Demand3.Keeping.{Held, held-same, held-shut, he
 use Rattle.rules.proofs.Demand3.KindOne.{Opened₁, Pair₁}
 use Rattle.rules.proofs.Demand3.Kinds.{past}
 use Rattle.rules.proofs.Demand3.Link.{at-place, StandsOne, one-idle, one-load, one-validate, one-store, says-values, says-yes, says-no, says-sure, Linked}
-use Rattle.rules.proofs.Demand3.Machine.{Versioned, stamp, same, Place as Stand, idle, loadReads, validateReads, storeReads, Sequence, Var, onWordSwap, ruleOne}
+use Rattle.rules.proofs.Demand3.Machine.{Versioned, stamp, same, Place as Stand, Sequence, Var, onWordSwap, ruleOne}
 use Rattle.rules.proofs.Demand3.OneStep.{same-true}
 use Rattle.rules.proofs.Demand3.Tags.{next-tag, Means, means-word, word-test}
 

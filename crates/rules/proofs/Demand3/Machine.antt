@@ -1,7 +1,6 @@
 -- A means of proof: the rules over versions in place of tags. A version is never used twice; beside the shared words the
 -- machine keeps every value ever stored, who stored it, and what the onlooker saw. One process at one variable.
-use mathlib.Core.Bool.{Bool, true, false, cond, _&&_}
-use mathlib.Core.List.{List, [], _∷_}
+use mathlib.Core.Bool.{Bool, true, false, _&&_}
 use Prim.Native.Nat.{ℕ, suc, _+_}
 use lib.Dec.{eqb, ltb}
 use Rattle.rules.specs.Figure2.{change}

@@ -1,11 +1,11 @@
 -- The shared words of the board stand for the words of the machine over versions, and a step's one write keeps it so.
 -- Assumes nothing.
-use mathlib.Core.Path.{_≡_, refl, ap, sym, _∙_}
+use mathlib.Core.Path.{_≡_, sym, _∙_}
 use mathlib.Core.Logic.{_≢_}
 use mathlib.Core.List.{List}
 use Prim.Native.Nat.{ℕ, _≤_, _<_}
 use native.Mathlib.Omega.{arith}
-use lib.ListN.{length, getD, set, length-set}
+use lib.ListN.{length, set, length-set}
 use lib.Seq.{getD-set-same, getD-set-other}
 use Rattle.rules.specs.Bounds.{Sized}
 use Rattle.rules.specs.Figure2.{change}
@@ -14,8 +14,8 @@ use Rattle.rules.specs.declared.Kind.{Kind}
 use Rattle.rules.specs.declared.Kind.the-variants.{One, Many}
 use Rattle.rules.specs.declared.Settings.{Settings}
 use Rattle.rules.proofs.Addresses.{header-in, segment-in, announce-in, header-header, segment-segment, header-segment, header-announce, segment-announce, announce-announce}
-use Rattle.rules.proofs.Demand3.Change.{change-same, change-all}
-use Rattle.rules.proofs.Demand3.Machine.{Versioned, Var, Put, none, putsHeader, putsSegment, putsRow, headerAfter, segmentAfter, rowAfter}
+use Rattle.rules.proofs.Demand3.Change.{change-all}
+use Rattle.rules.proofs.Demand3.Machine.{Var, Put, none, putsHeader, putsSegment, putsRow, headerAfter, segmentAfter, rowAfter}
 use Rattle.rules.proofs.Demand3.Tags.{Means}
 
 pub record Mem (s : Settings) (vars : ℕ → Var) (rows : ℕ → ℕ → ℕ) (words : List ℕ) : Type 0 where

@@ -1,22 +1,20 @@
 -- One step keeps the invariant. Assumes nothing.
 use mathlib.Core.Path.{_≡_, refl, ap, sym, _∙_}
-use mathlib.Core.Logic.{_≢_, _⊎_, inl, inr}
-use mathlib.Core.Bool.{Bool, true, false, cond}
+use mathlib.Core.Logic.{_≢_, inl, inr}
+use mathlib.Core.Bool.{Bool, true, false}
 use mathlib.Core.List.{List, [], _∷_}
-use Prim.Native.Nat.{ℕ, zero, suc, _+_, _≤_, _<_}
+use Prim.Native.Nat.{ℕ, suc, _+_, _≤_, _<_}
 use native.Mathlib.Omega.{arith}
 use lib.Dec.{eqb, ltb}
 use lib.ListN.{length}
 use borrow.Author.Tests.{eqb-true, eqb-false, eq-eqb, ne-eqb, ltb-true, ltb-false}
-use Rattle.rules.specs.Demand3.{Another, here, there}
+use Rattle.rules.specs.Demand3.{Another, here}
 use Rattle.rules.specs.Figure2.{change, Returned, nothing, content, truth}
-use Rattle.rules.specs.Onlooker.{Note, quiet, begins, loads, checks, stores, Seen, see}
-use Rattle.rules.specs.declared.Kind.{Kind}
 use Rattle.rules.specs.declared.Kind.the-variants.{One, Many}
-use Rattle.rules.proofs.Tests.{and-left, and-right, and-both}
-use Rattle.rules.proofs.Demand3.Change.{never, change-same, change-other, change-all, change-both, each}
-use Rattle.rules.proofs.Demand3.Machine.{Versioned, stamp, same, Told, busy, values, witness, sure, Phase, readsSegment, readsAnnounced, swapsSegment, readsAgain, readsHeader, Aim, load, store, Place, idle, loadReads, validateReads, storeReads, announces, swapsHeader, copies, gather, Sequence, shut, Var, Put, none, putsHeader, putsSegment, putsRow, Core, Out, leaves, anew, goes, ends, refuses, onRead, onAnnounced, onSwap, onSegment, onSegmentSwap, through, cutShort, onHeader, rule, onWordSwap, ruleOne, rules, acts}
-use Rattle.rules.proofs.Demand3.Inv.{Free, free[], free∷, Last, last[], last∷, loading, storing, Storing, VarInv, Opened, Phased, Checked, PhaseOk, Loads, Stores, AimOk, Copying, Telling, Doing, Pair, Stays, Moves, Rely, Right}
+use Rattle.rules.proofs.Tests.{and-left, and-right}
+use Rattle.rules.proofs.Demand3.Change.{never, change-same, change-other, change-all, each}
+use Rattle.rules.proofs.Demand3.Machine.{Versioned, stamp, same, Phase, readsSegment, readsAnnounced, swapsSegment, readsAgain, readsHeader, Aim, load, store, Place, idle, loadReads, validateReads, storeReads, announces, swapsHeader, copies, gather, Sequence, shut, Var, Out, leaves, goes, refuses, onRead, onAnnounced, onSwap, onSegment, onSegmentSwap, through, cutShort, onHeader, rule, acts}
+use Rattle.rules.proofs.Demand3.Inv.{Free, free[], free∷, Last, last[], last∷, loading, storing, Storing, VarInv, Opened, Checked, PhaseOk, Loads, Copying, Telling, Pair, Rely, Right, Counts}
 use Rattle.rules.proofs.Demand3.Stable.{stable}
 
 -- words
@@ -49,6 +47,7 @@ pub record Fine (W p : ℕ) (v : Var) (o : Out) : Type 0 where
   pub rely : (r : ℕ) → r ≢ p → Rely W r v (o .var)
   pub pair : Pair W p (o .var) (o .row) (o .sequence) (o .place)
   pub right : Right W p (o .var .seen) (o .told)
+  pub counts : Counts p (o .var .seen) (o .note)
 
 pub alike : (W r : ℕ) (v : Var) → Rely W r v v
 alike W r v = record {
@@ -119,7 +118,7 @@ module _ (W p : ℕ) (v : Var) (rows : ℕ → ℕ → ℕ) (s : Sequence) (I : 
     (told : (i : ℕ) → i < W → suc (v .segment i .version) ≡ v .header .version → rows (v .header .value) i ≡ v .stored (v .header .version) i) where
   -- nothing shared is changed
   still : (pl : Place) → Pair W p v (rows p) s pl → Fine W p v (go W p v rows s pl)
-  still pl P = record { inv = I; rely = λ r n. alike W r v; pair = P; right = tt }
+  still pl P = record { inv = I; rely = λ r n. alike W r v; pair = P; right = tt; counts = tt }
 
   at-rd : (a : Aim) (h : Versioned) (i : ℕ) → Pair W p v (rows p) s (copies a h i readsSegment) →
       (t : Bool) → eqb (suc (v .segment i .version)) (h .version) ≡ t → Fine W p v (rdAt W p v rows s t a h i)
@@ -166,7 +165,7 @@ module _ (W p : ℕ) (v : Var) (rows : ℕ → ℕ → ℕ) (s : Sequence) (I : 
 
       past : h .version ≤ v .segment i .version
       past = omega (arith, I .lo i l, P .doing .0 .old, apart)
-  at-cs a h i y z P true e = record { inv = inv′; rely = λ r n. rely′ r; pair = pair′; right = tt }
+  at-cs a h i y z P true e = record { inv = inv′; rely = λ r n. rely′ r; pair = pair′; right = tt; counts = tt }
     where
       v′ : Var
       v′ = setSeg W p v rows s i (stamp (h .version) z)
@@ -241,6 +240,7 @@ module _ (W p : ℕ) (v : Var) (rows : ℕ → ℕ → ℕ) (s : Sequence) (I : 
           lag = P .lag;
           doing = tt;
         };
+        counts = tt;
         right = (
           empty (v .seen .since p) (omega (arith, O .count, A .from)),
           (v .stored (h .version), A .due, λ j l. gathered h i y (P .doing .1) g e (A .got) j (omega arith)),
@@ -255,6 +255,7 @@ module _ (W p : ℕ) (v : Var) (rows : ℕ → ℕ → ℕ) (s : Sequence) (I : 
       doing = tt;
     };
     right = (P .doing .0 .aim .due, never);
+    counts = tt;
   }
 
   at-gone : (a : Aim) (h : Versioned) (i : ℕ) (y : ℕ) → Pair W p v (rows p) s (copies a h i (readsHeader y)) → same (v .header) h ≡ false →
@@ -279,6 +280,7 @@ module _ (W p : ℕ) (v : Var) (rows : ℕ → ℕ → ℕ) (s : Sequence) (I : 
           lag = P .lag;
           doing = tt;
         };
+        counts = tt;
         right = first (v .header .value) (v .seen .since p) (O .last) (omega (arith, O .count, A .from, D .old, n));
       }
   at-gone store h i y P e = record {
@@ -290,6 +292,7 @@ module _ (W p : ℕ) (v : Var) (rows : ℕ → ℕ → ℕ) (s : Sequence) (I : 
       doing = tt;
     };
     right = (P .doing .0 .aim .due, never);
+    counts = tt;
   }
 
   at-next : (a : Aim) (h : Versioned) (i : ℕ) (y : ℕ) → Pair W p v (rows p) s (copies a h i (readsHeader y)) → v .header .version ≡ h .version → i + 1 < W →
@@ -376,6 +379,7 @@ module _ (W p : ℕ) (v : Var) (rows : ℕ → ℕ → ℕ) (s : Sequence) (I : 
         inv = owing-inv (truth false);
         rely = owing-rely (truth false);
         pair = record { seq = closed (owing (truth false)); lag = λ j l m k. absurd (q (v .header) (P .lag j l m k)); doing = tt };
+        counts = change-same (v .seen .due) p (truth false);
         right = (change-same (v .seen .due) p (truth false), λ _. some-other p (v .seen .since p) (O .others t) (omega (arith, O .count, O .old, n)));
       })
 
@@ -406,6 +410,7 @@ module _ (W p : ℕ) (v : Var) (rows : ℕ → ℕ → ℕ) (s : Sequence) (I : 
           doing = record { open' = T .open'; from = T .from; who = T .who; told = λ j l. told′ j (omega (arith, ltb-false (i + 1) W e)) };
         };
         right = tt;
+        counts = tt;
       }
       by true e = record {
         inv = I;
@@ -416,6 +421,7 @@ module _ (W p : ℕ) (v : Var) (rows : ℕ → ℕ → ℕ) (s : Sequence) (I : 
           doing = (ltb-true (i + 1) W e, record { open' = T .open'; from = T .from; who = T .who; told = told′ });
         };
         right = tt;
+        counts = tt;
       }
 
   at-swapsHeader : (new : ℕ → ℕ) (h : Versioned) → Pair W p v (rows p) s (swapsHeader new h) → (t : Bool) → same (v .header) h ≡ t → Fine W p v (swAt W p v rows s t new h)
@@ -462,6 +468,7 @@ module _ (W p : ℕ) (v : Var) (rows : ℕ → ℕ → ℕ) (s : Sequence) (I : 
       );
     };
     right = tt;
+    counts = change-same (v .seen .due) p (truth true);
   })
     where
       T : Telling p v (rows p) s new h W
@@ -517,6 +524,7 @@ module _ (W p : ℕ) (v : Var) (rows : ℕ → ℕ → ℕ) (s : Sequence) (I : 
       );
     };
     right = tt;
+    counts = tt;
   }
 
   at-validateReads : Pair W p v (rows p) s validateReads → Fine W p v (acts Many W p v rows s validateReads)
@@ -527,6 +535,7 @@ module _ (W p : ℕ) (v : Var) (rows : ℕ → ℕ → ℕ) (s : Sequence) (I : 
         inv = owing-inv (truth (v .seen .atomic .valid p));
         rely = owing-rely (truth (v .seen .atomic .valid p));
         pair = record { seq = λ o. record { old = O .old; full = O .full; count = O .count; last = O .last; others = O .others; valid = O .valid }; lag = P .lag; doing = tt };
+        counts = tt;
         right = (
           change-same (v .seen .due) p (truth (v .seen .atomic .valid p)) ∙ ap truth (O .valid),
           λ e. some-other p (v .seen .since p) (O .others refl) (omega (arith, O .count, O .old, eqb-false (v .header .version) (s .kept) e)),

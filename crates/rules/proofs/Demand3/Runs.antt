@@ -1,14 +1,13 @@
 -- Runs of the entry rules: what an event leaves, taken or refused; a run keeps its settings. Assumes nothing.
-use mathlib.Core.Path.{_≡_, refl, sym, ap, _∙_}
-use mathlib.Core.Bool.{Bool, true, false}
+use mathlib.Core.Path.{_≡_, refl, ap, _∙_}
 use mathlib.Core.List.{List, [], _∷_}
-use Prim.Native.Nat.{ℕ, _≤_, _<_}
+use Prim.Native.Nat.{ℕ}
 use native.Mathlib.Omega.{arith}
-use lib.ListN.{length, getD, set, length-set, replicate, length-replicate}
+use lib.ListN.{length, length-set, length-replicate}
 use Rattle.rules.specs.Entry.{freshBoard, freshWords, setUpBy, setUpRule, refusing, beginBy, beginRule, stepped, stepBy, stepRule, freshProcess}
 use Rattle.rules.specs.Processes.{noValues, processAt, putProcess}
 use Rattle.rules.specs.Refusals.{sizesCheck, beginCheck, stepCheck}
-use Rattle.rules.specs.Runs.{State, Event, begin, step, processOf, entry, after, fresh, run}
+use Rattle.rules.specs.Runs.{State, Event, begin, step, entry, after, fresh, run}
 use Rattle.rules.specs.Steps.{beginning, processStep}
 use Rattle.rules.specs.declared.Answer.the-variants.{Begun}
 use Rattle.rules.specs.declared.Answered.{Answered}

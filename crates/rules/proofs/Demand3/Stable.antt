@@ -1,22 +1,13 @@
 -- What the others do keeps a process's part of the invariant. Assumes nothing.
-use mathlib.Core.Path.{_≡_, refl, ap, sym, _∙_}
-use mathlib.Core.Logic.{_≢_, _⊎_, inl, inr}
-use mathlib.Core.Bool.{Bool, true, false, cond}
-use mathlib.Core.List.{List, [], _∷_}
-use Prim.Native.Nat.{ℕ, zero, suc, _+_, _≤_, _<_}
+use mathlib.Core.Path.{_≡_, ap, sym, _∙_}
+use mathlib.Core.Logic.{_⊎_, inl, inr}
+use mathlib.Core.Bool.{true}
+use Prim.Native.Nat.{ℕ, suc, _≤_, _<_}
 use native.Mathlib.Omega.{arith}
-use lib.Dec.{eqb, ltb}
-use lib.ListN.{length}
-use borrow.Author.Tests.{eqb-true, eqb-false, eq-eqb, ne-eqb, ltb-true, ltb-false}
-use Rattle.rules.specs.Demand3.{Another, here, there}
-use Rattle.rules.specs.Figure2.{change, Returned, nothing, content, truth}
-use Rattle.rules.specs.Onlooker.{Note, quiet, begins, loads, checks, stores, Seen, see}
-use Rattle.rules.specs.declared.Kind.{Kind}
-use Rattle.rules.specs.declared.Kind.the-variants.{One, Many}
-use Rattle.rules.proofs.Tests.{and-left, and-right, and-both}
-use Rattle.rules.proofs.Demand3.Change.{never, change-same, change-other, change-all, change-both, each}
-use Rattle.rules.proofs.Demand3.Machine.{Versioned, stamp, same, Told, busy, values, witness, sure, Phase, readsSegment, readsAnnounced, swapsSegment, readsAgain, readsHeader, Aim, load, store, Place, idle, loadReads, validateReads, storeReads, announces, swapsHeader, copies, gather, Sequence, shut, Var, Put, none, putsHeader, putsSegment, putsRow, Core, Out, leaves, anew, goes, ends, refuses, onRead, onAnnounced, onSwap, onSegment, onSegmentSwap, through, cutShort, onHeader, rule, onWordSwap, ruleOne, rules, acts}
-use Rattle.rules.proofs.Demand3.Inv.{Free, free[], free∷, Last, last[], last∷, loading, storing, Storing, VarInv, Opened, Phased, Checked, PhaseOk, Loads, Stores, AimOk, Copying, Telling, Doing, Pair, Stays, Moves, Rely, Right}
+use borrow.Author.Tests.{ne-eqb}
+use Rattle.rules.specs.Figure2.{nothing}
+use Rattle.rules.proofs.Demand3.Machine.{Versioned, Phase, readsSegment, readsAnnounced, swapsSegment, readsAgain, readsHeader, Aim, load, store, Place, idle, loadReads, validateReads, storeReads, announces, swapsHeader, copies, Sequence, Var}
+use Rattle.rules.proofs.Demand3.Inv.{free∷, last∷, Storing, VarInv, Opened, PhaseOk, AimOk, Copying, Telling, Doing, Pair, Stays, Moves, Rely}
 
 module _ (W p : ℕ) (v v′ : Var) (I : VarInv W v) (I′ : VarInv W v′) (R : Rely W p v v′) where
   up : v .header .version ≤ v′ .header .version

@@ -1,19 +1,18 @@
 -- How many steps a call takes: always, whatever the others do. Each step that the board takes brings its process nearer
 -- the end of its call. Assumes nothing.
-use mathlib.Core.Path.{_≡_, refl, sym, ap, _∙_}
-use mathlib.Core.Logic.{_≢_}
+use mathlib.Core.Path.{_≡_, refl}
 use mathlib.Core.Bool.{Bool, true, false, cond}
 use mathlib.Core.List.{List, [], _∷_}
 use Prim.Native.Nat.{ℕ, zero, suc, _+_, _-_, _*_, _≤_, _<_}
 use native.Mathlib.Omega.{arith}
 use lib.Dec.{eqb, ltb}
-use lib.ListN.{length, getD, set, replicate}
+use lib.ListN.{length, getD, replicate}
 use lib.Seq.{getD-set-same, getD-set-other}
 use borrow.Author.Tests.{ltb-true}
 use Rattle.word.specs.Word.{tagOf, valueOf, previousTag}
 use Rattle.rules.specs.Figure4.{Step}
 use Rattle.rules.specs.Figure6.{newHeader, saving, copyThrough, copyOn, copyCutShort}
-use Rattle.rules.specs.GoodForm.{placeFits, processFits}
+use Rattle.rules.specs.GoodForm.{placeFits}
 use Rattle.rules.specs.Onlooker.{taken, placeOf}
 use Rattle.rules.specs.Figure2.{change}
 use Rattle.rules.specs.OwnSteps.{Own, counting, mostStepsBy, mostSteps, ownSteps}
@@ -30,15 +29,15 @@ use Rattle.rules.specs.declared.Kind.the-variants.{One, Many}
 use Rattle.rules.specs.declared.Moved.{Moved}
 use Rattle.rules.specs.Entry.{freshProcess, freshBoard, beginRule, stepRule}
 use Rattle.rules.specs.Runs.{State, Event, begin, step, processOf, fresh, run}
-use Rattle.rules.specs.Demand3.{Turn, place, StepsBounded}
+use Rattle.rules.specs.Demand3.{place, StepsBounded}
 use Rattle.rules.specs.Steps.{firstPlace, beginning, stepFrom, processStep}
 use Rattle.rules.specs.declared.Place.{Place}
 use Rattle.rules.specs.declared.Place.the-variants.{Idle, LoadReadsWord, ValidateReadsWord, StoreSwapsWord, LoadReadsHeader, ValidateReadsHeader, StoreReadsHeader, StoreAnnounces, StoreSwapsHeader, ReadsSegment, ReadsAnnounced, SwapsSegment, ReadsSegmentAgain, ReadsHeader}
 use Rattle.rules.specs.declared.Process.{Process}
 use Rattle.rules.specs.declared.Settings.{Settings}
-use Rattle.rules.proofs.Held.{segment-in, held-copy, clauses}
+use Rattle.rules.proofs.Held.{segment-in, clauses}
 use Rattle.rules.proofs.Sized.{sized}
-use Rattle.rules.proofs.Demand3.Accepted.{Taken, StepTaken, BeginTaken, in-form}
+use Rattle.rules.proofs.Demand3.Accepted.{Taken, in-form}
 use Rattle.rules.proofs.Demand3.Change.{never, change-all}
 use Rattle.rules.proofs.Demand3.Runs.{Shaped, Fresh, begin-cases, step-cases, run-shaped, fresh-of}
 

@@ -10,7 +10,6 @@ use lib.Dec.{eqb, leb}
 use lib.Pow.{pow-pos}
 use Rattle.word.specs.Word.{word, tagOf, valueOf, nextTag, previousTag, tagLimit, valueLimit}
 use Rattle.word.proofs.Laws.{tag-word, value-word, same-parts}
-use Rattle.rules.proofs.Tests.{and-left, and-right}
 use Rattle.rules.proofs.Demand3.Machine.{Versioned, stamp, same}
 use Rattle.rules.proofs.Demand3.OneStep.{same-true, same-false}
 

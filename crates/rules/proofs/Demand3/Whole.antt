@@ -1,22 +1,19 @@
 -- The whole machine: begins and steps in any order. Assumes nothing.
-use mathlib.Core.Path.{_≡_, refl, ap, sym, _∙_}
-use mathlib.Core.Logic.{_≢_, _⊎_, inl, inr}
+use mathlib.Core.Path.{_≡_, refl, sym}
+use mathlib.Core.Logic.{_≢_}
 use mathlib.Core.Bool.{Bool, true, false, cond}
-use mathlib.Core.List.{List, [], _∷_}
-use Prim.Native.Nat.{ℕ, zero, suc, _+_, _≤_, _<_}
+use Prim.Native.Nat.{ℕ, _<_}
 use native.Mathlib.Omega.{arith}
-use lib.Dec.{eqb, ltb}
-use lib.ListN.{length}
-use borrow.Author.Tests.{eqb-true, eqb-false, eq-eqb, ne-eqb, ltb-true, ltb-false}
-use Rattle.rules.specs.Demand3.{Another, here, there}
-use Rattle.rules.specs.Figure2.{change, Returned, nothing, content, truth}
-use Rattle.rules.specs.Onlooker.{Note, quiet, begins, loads, checks, stores, Seen, see}
+use lib.Dec.{eqb}
+use borrow.Author.Tests.{eq-eqb, ne-eqb}
+use Rattle.rules.specs.Demand3.{there}
+use Rattle.rules.specs.Figure2.{change, nothing}
+use Rattle.rules.specs.Onlooker.{begins}
 use Rattle.rules.specs.declared.Kind.{Kind}
 use Rattle.rules.specs.declared.Kind.the-variants.{One, Many}
-use Rattle.rules.proofs.Tests.{and-left, and-right, and-both}
-use Rattle.rules.proofs.Demand3.Change.{never, change-same, change-other, change-all, change-both, each}
-use Rattle.rules.proofs.Demand3.Machine.{Versioned, stamp, same, Told, busy, values, witness, sure, Phase, readsSegment, readsAnnounced, swapsSegment, readsAgain, readsHeader, Aim, load, store, Place, idle, loadReads, validateReads, storeReads, announces, swapsHeader, copies, gather, Sequence, shut, Var, Put, none, putsHeader, putsSegment, putsRow, Core, Out, leaves, anew, goes, ends, refuses, onRead, onAnnounced, onSwap, onSegment, onSegmentSwap, through, cutShort, onHeader, rule, onWordSwap, ruleOne, rules, acts}
-use Rattle.rules.proofs.Demand3.Kinds.{width, VarInvK, PairK, RelyK, FineK, stableK, fineK, idle-row, firstOf, Has, beginK, anew-inv, anew-rely, anew-idle}
+use Rattle.rules.proofs.Demand3.Change.{never, change-all, change-both, each}
+use Rattle.rules.proofs.Demand3.Machine.{stamp, Place, idle, Sequence, Var, Out, leaves, anew, acts}
+use Rattle.rules.proofs.Demand3.Kinds.{VarInvK, PairK, FineK, stableK, fineK, idle-row, firstOf, Has, beginK, anew-inv, anew-rely, anew-idle}
 use Rattle.rules.specs.Onlooker.{unseen}
 use Rattle.rules.specs.declared.Call.{Call}
 
