@@ -4,3 +4,11 @@ pub mod Addresses
 pub mod Masks
 pub mod Held
 pub mod Schedules
+pub mod Branches
+pub mod Accepted
+pub mod Closing
+pub mod Counts
+pub mod Frame
+pub mod Refusing
+pub mod Shapes
+pub mod Written
