@@ -12,3 +12,5 @@ pub mod Frame
 pub mod Refusing
 pub mod Shapes
 pub mod Written
+pub mod Sounds
+pub mod Kept
