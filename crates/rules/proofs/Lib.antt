@@ -14,3 +14,9 @@ pub mod Shapes
 pub mod Written
 pub mod Sounds
 pub mod Kept
+pub mod Begins
+pub mod Keeps
+pub mod Fresh
+pub mod Reach
+pub mod Leaves
+pub mod Always
