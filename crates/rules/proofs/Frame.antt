@@ -201,4 +201,4 @@ framed (ReadsHeader c value) s p me words e =
     both-arms (Framed (c .variable) (Writes s me (ReadsHeader c value)) p words)
     (eqb (headerOf s (c .variable) words) (c .header)) _ _
     (record { own = on s c p (saving c value p) (saves c value p); touched = untouched _ words })
-    (record { own = short s c p (headerOf s (c .variable) words); touched = untouched _ words })
+    (record { own = short s c p _; touched = untouched _ words })

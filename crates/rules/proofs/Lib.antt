@@ -20,3 +20,8 @@ pub mod Fresh
 pub mod Reach
 pub mod Leaves
 pub mod Always
+pub mod Packing
+pub mod Computing
+pub mod RefusalOrder
+pub mod Slips
+pub mod Theorems
