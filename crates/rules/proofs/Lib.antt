@@ -8,6 +8,7 @@ pub mod Branches
 pub mod Accepted
 pub mod Closing
 pub mod Counts
+pub mod Places
 pub mod Frame
 pub mod Refusing
 pub mod Shapes
@@ -19,9 +20,10 @@ pub mod Keeps
 pub mod Fresh
 pub mod Reach
 pub mod Leaves
-pub mod Always
+pub mod Runs
 pub mod Packing
 pub mod Computing
 pub mod RefusalOrder
 pub mod Slips
+pub mod Cases
 pub mod Theorems

@@ -12,7 +12,7 @@ use Rattle.rules.specs.declared.Place.{Place}
 use Rattle.rules.specs.declared.Place.the-variants.{Idle, LoadReadsWord, ValidateReadsWord, StoreSwapsWord, LoadReadsHeader, ValidateReadsHeader, StoreReadsHeader, StoreAnnounces, StoreSwapsHeader, ReadsSegment, ReadsAnnounced, SwapsSegment, ReadsSegmentAgain, ReadsHeader}
 use Rattle.rules.specs.declared.Settings.{Settings}
 use Rattle.rules.proofs.Addresses as addresses
-use Rattle.rules.proofs.Frame.{variableAt, Writes}
+use Rattle.rules.proofs.Places.{variableAt, Writes}
 use Rattle.rules.proofs.Held as held
 use Rattle.rules.proofs.Written.{kind-one, kind-many, one-not-many}
 

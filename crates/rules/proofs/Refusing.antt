@@ -23,7 +23,8 @@ use Rattle.rules.specs.declared.Start.the-variants.{Refused as StartRefu
 use Rattle.word.specs.declared.Refusal.{Refusal}
 use Rattle.word.specs.declared.Refusal.the-variants.{SettingOutsideSizes}
 use Rattle.rules.proofs.Accepted.{step-accepted}
-use Rattle.rules.proofs.Frame.{isRefusal, framed}
+use Rattle.rules.proofs.Frame.{framed}
+use Rattle.rules.proofs.Places.{isRefusal}
 
 -- a refused set-up gives its number, the blank board and the words as found
 pub set-up-refused : (s : Settings) (words : List ℕ) (r : Refusal) → sizesCheck s (length words) ≡ Refused r

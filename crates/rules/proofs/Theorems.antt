@@ -1,11 +1,7 @@
 -- An index of what is proved about the rules: each name here is a theorem, and the line above it says it in words.
 
--- P1 to P10
-pub use Rattle.rules.proofs.Schedules.{hold}
--- the slips that look right, where P1 to P10 do not show them
-pub use Rattle.rules.proofs.Slips.{Slips, ruled-out}
--- of two refusals that apply, the first in order is given; what 8 is given for
-pub use Rattle.rules.proofs.RefusalOrder.{Order, in-order, Values, values-refused}
+-- P1 to P10 (hold), the slips that look right (ruled-out), the order of the refusals (in-order, values-refused)
+pub use Rattle.rules.proofs.Cases.{hold, Slips, ruled-out, Order, in-order, Values, values-refused}
 -- each address is among the words used, and different places have different addresses
 pub use Rattle.rules.proofs.Addresses.{used-most, header-in, segment-in, announce-in, header-header, segment-segment, header-segment, header-announce, segment-announce, announce-announce}
 -- packing and unpacking undo each other
@@ -29,7 +25,7 @@ pub use Rattle.rules.proofs.Fresh.{set-up-accepted, set-up-in-form, fre
 -- every accepted begin and step keeps good form
 pub use Rattle.rules.proofs.Keeps.{InForm, begin-keeps, step-keeps}
 -- good form holds after any events from an accepted set-up
-pub use Rattle.rules.proofs.Always.{Running, always-in-form}
+pub use Rattle.rules.proofs.Runs.{Running, always-in-form}
 -- at each place: a step writes at most the word that the place names, leaves the other variables' sequences and
 -- keep-words and the new values, and answers no refusal
 pub use Rattle.rules.proofs.Frame.{Framed, framed}
