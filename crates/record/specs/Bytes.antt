@@ -12,3 +12,9 @@ carriageReturn = 13
 
 abbrev pub lineFeed : ℕ
 lineFeed = 10
+
+abbrev pub zeroDigit : ℕ
+zeroDigit = 48
+
+abbrev pub nineDigit : ℕ
+nineDigit = 57
