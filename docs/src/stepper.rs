@@ -13,8 +13,7 @@ use std::io::{self, Read, Write};
 pub const MOST_PROCESSES: usize = 16;
 pub const MOST_VARIABLES: usize = 16;
 pub const MOST_SEGMENTS: usize = 4;
-pub const MOST_WORDS: usize =
-    MOST_VARIABLES * (1 + MOST_SEGMENTS) + MOST_PROCESSES * MOST_SEGMENTS;
+pub const MOST_WORDS: usize = MOST_VARIABLES * (1 + MOST_SEGMENTS) + MOST_PROCESSES * MOST_SEGMENTS;
 pub const LEAST_TAG_BITS: u64 = 4;
 pub const MOST_TAG_BITS: u64 = 48;
 
@@ -59,7 +58,9 @@ pub struct Layout {
 impl Layout {
     pub fn new(tag_bits: u64) -> Option<Layout> {
         let in_range = (LEAST_TAG_BITS..=MOST_TAG_BITS).contains(&tag_bits);
-        in_range.then_some(Layout { tag_bits: tag_bits as u32 })
+        in_range.then_some(Layout {
+            tag_bits: tag_bits as u32,
+        })
     }
 
     /// 2^b: tags are below it.
@@ -148,16 +149,38 @@ impl Refusal {
 pub enum Place {
     Idle,
     // Figure 4, kind `one`.
-    LoadWord { var: usize },
-    ValidateWord { var: usize },
-    SwapWord { var: usize },
+    LoadWord {
+        var: usize,
+    },
+    ValidateWord {
+        var: usize,
+    },
+    SwapWord {
+        var: usize,
+    },
     // Figure 6, kind `many`.
-    LoadHeader { var: usize },
-    ValidateHeader { var: usize },
-    StoreHeader { var: usize },
-    Announce { var: usize, header: u64, segment: usize },
-    SwapHeader { var: usize, header: u64 },
-    Copy { copy: Copying, access: Access },
+    LoadHeader {
+        var: usize,
+    },
+    ValidateHeader {
+        var: usize,
+    },
+    StoreHeader {
+        var: usize,
+    },
+    Announce {
+        var: usize,
+        header: u64,
+        segment: usize,
+    },
+    SwapHeader {
+        var: usize,
+        header: u64,
+    },
+    Copy {
+        copy: Copying,
+        access: Access,
+    },
 }
 
 /// What Copy was given and how far it is.
@@ -392,7 +415,9 @@ impl Board {
     }
 
     pub fn step(&mut self, process: u64) -> Answer {
-        let checked = self.check_state().and_then(|()| self.check_process(process));
+        let checked = self
+            .check_state()
+            .and_then(|()| self.check_process(process));
         match checked {
             Ok(process) => self.take_step(process),
             Err(refusal) => Answer::Refused(refusal),
@@ -408,7 +433,11 @@ impl Board {
             Place::LoadHeader { var } => self.load_header(p, var),
             Place::ValidateHeader { var } => self.validate_header(p, var),
             Place::StoreHeader { var } => self.store_header(p, var),
-            Place::Announce { var, header, segment } => self.announce(p, var, header, segment),
+            Place::Announce {
+                var,
+                header,
+                segment,
+            } => self.announce(p, var, header, segment),
             Place::SwapHeader { var, header } => self.swap_header(p, var, header),
             Place::Copy { copy, access } => self.copy_step(p, copy, access),
         }
@@ -448,7 +477,9 @@ impl Board {
     fn swap_word(&mut self, p: usize, var: usize) -> Answer {
         let kept = self.processes[p].keep[var];
         let new = self.processes[p].new[0];
-        let mut word = self.layout.pack(self.layout.next_tag(self.layout.tag(kept)), new);
+        let mut word = self
+            .layout
+            .pack(self.layout.next_tag(self.layout.tag(kept)), new);
         if slip::NO_NEW_TAG_FOR_EQUAL_VALUE && new == self.layout.value(kept) {
             word = kept;
         }
@@ -482,8 +513,19 @@ impl Board {
         self.processes[p].keep[var] = self.layout.tag(header);
         self.processes[p].gathered = [0; MOST_SEGMENTS];
         self.open(p, var);
-        let copy = Copying { var, header, segment: 0, gathers: true };
-        self.go_on(p, Place::Copy { copy, access: Access::ReadSegment })
+        let copy = Copying {
+            var,
+            header,
+            segment: 0,
+            gathers: true,
+        };
+        self.go_on(
+            p,
+            Place::Copy {
+                copy,
+                access: Access::ReadSegment,
+            },
+        )
     }
 
     fn validate_header(&mut self, p: usize, var: usize) -> Answer {
@@ -496,13 +538,24 @@ impl Board {
         if self.layout.tag(header) != self.processes[p].keep[var] {
             return self.end_store(p, var, false);
         }
-        self.go_on(p, Place::Announce { var, header, segment: 0 })
+        self.go_on(
+            p,
+            Place::Announce {
+                var,
+                header,
+                segment: 0,
+            },
+        )
     }
 
     fn announce(&mut self, p: usize, var: usize, header: u64, segment: usize) -> Answer {
         self.words[self.announce_at(p, segment)] = self.processes[p].new[segment];
         let place = if segment + 1 < self.segment_count() {
-            Place::Announce { var, header, segment: segment + 1 }
+            Place::Announce {
+                var,
+                header,
+                segment: segment + 1,
+            }
         } else {
             Place::SwapHeader { var, header }
         };
@@ -518,8 +571,19 @@ impl Board {
         if slip::STORE_SKIPS_COPY {
             return self.end_store(p, var, true);
         }
-        let copy = Copying { var, header, segment: 0, gathers: false };
-        self.go_on(p, Place::Copy { copy, access: Access::ReadSegment })
+        let copy = Copying {
+            var,
+            header,
+            segment: 0,
+            gathers: false,
+        };
+        self.go_on(
+            p,
+            Place::Copy {
+                copy,
+                access: Access::ReadSegment,
+            },
+        )
     }
 
     fn copy_step(&mut self, p: usize, copy: Copying, access: Access) -> Answer {
@@ -543,7 +607,9 @@ impl Board {
         if self.layout.tag(word) == before {
             Access::ReadAnnounced { word }
         } else {
-            Access::ReadHeader { value: self.layout.value(word) }
+            Access::ReadHeader {
+                value: self.layout.value(word),
+            }
         }
     }
 
@@ -567,24 +633,41 @@ impl Board {
 
     fn read_segment_again(&self, copy: Copying) -> Access {
         if slip::SECOND_READ_OF_ANNOUNCE_ROW {
-            return Access::ReadHeader { value: self.read_announced(copy) };
+            return Access::ReadHeader {
+                value: self.read_announced(copy),
+            };
         }
         let word = self.words[self.segment_at(copy.var, copy.segment)];
-        Access::ReadHeader { value: self.layout.value(word) }
+        Access::ReadHeader {
+            value: self.layout.value(word),
+        }
     }
 
     fn read_header(&mut self, p: usize, copy: Copying, value: u64) -> Answer {
         let header = self.first_word(copy.var);
         if header != copy.header {
-            let told = if slip::WITNESS_FROM_OLD_HEADER { copy.header } else { header };
+            let told = if slip::WITNESS_FROM_OLD_HEADER {
+                copy.header
+            } else {
+                header
+            };
             return self.end_copy(p, copy, Answer::Witness(self.layout.value(told)));
         }
         if copy.gathers {
             self.processes[p].gathered[copy.segment] = value;
         }
         if copy.segment + 1 < self.segment_count() {
-            let copy = Copying { segment: copy.segment + 1, ..copy };
-            return self.go_on(p, Place::Copy { copy, access: Access::ReadSegment });
+            let copy = Copying {
+                segment: copy.segment + 1,
+                ..copy
+            };
+            return self.go_on(
+                p,
+                Place::Copy {
+                    copy,
+                    access: Access::ReadSegment,
+                },
+            );
         }
         self.end_copy(p, copy, Answer::Value(self.processes[p].gathered))
     }
@@ -607,7 +690,9 @@ impl Board {
     /// Check 3, over every process below N and every used word.
     pub fn in_good_form(&self) -> bool {
         let count = self.process_count();
-        self.processes[..count].iter().all(|process| self.process_in_form(process))
+        self.processes[..count]
+            .iter()
+            .all(|process| self.process_in_form(process))
             && (self.settings.kind == Kind::One || self.memory_in_form())
     }
 
@@ -624,8 +709,7 @@ impl Board {
         process.new.iter().all(|&value| self.fits(value))
             && process.gathered.iter().all(|&value| self.fits(value))
             && u32::from(process.open) >> count == 0
-            && (self.settings.kind == Kind::One
-                || kept.iter().all(|&tag| tag < self.layout.tags()))
+            && (self.settings.kind == Kind::One || kept.iter().all(|&tag| tag < self.layout.tags()))
             && self.place_in_form(process)
     }
 
@@ -640,12 +724,12 @@ impl Board {
             Place::ValidateWord { var } | Place::SwapWord { var } => one && opened(var),
             Place::LoadHeader { var } => !one && below_t(var),
             Place::ValidateHeader { var } | Place::StoreHeader { var } => !one && opened(var),
-            Place::Announce { var, header, segment } => {
-                !one && opened(var) && self.header_in_form(header) && segment < segments
-            }
-            Place::SwapHeader { var, header } => {
-                !one && opened(var) && self.header_in_form(header)
-            }
+            Place::Announce {
+                var,
+                header,
+                segment,
+            } => !one && opened(var) && self.header_in_form(header) && segment < segments,
+            Place::SwapHeader { var, header } => !one && opened(var) && self.header_in_form(header),
             Place::Copy { copy, access } => {
                 !one && opened(copy.var)
                     && self.header_in_form(copy.header)
@@ -728,7 +812,13 @@ pub struct Records<R> {
 
 impl<R: Read> Records<R> {
     pub fn new(input: R) -> Records<R> {
-        Records { input, buffer: vec![0; BUFFER_BYTES], start: 0, end: 0, input_ended: false }
+        Records {
+            input,
+            buffer: vec![0; BUFFER_BYTES],
+            start: 0,
+            end: 0,
+            input_ended: false,
+        }
     }
 
     /// Whether no byte is left, and so no record.
@@ -834,7 +924,9 @@ pub fn read_number(field: &[u8]) -> Result<u64, Refusal> {
             return Err(Refusal::Field);
         }
         let shifted = number.checked_mul(10).ok_or(Refusal::Field)?;
-        number = shifted.checked_add(u64::from(byte - b'0')).ok_or(Refusal::Field)?;
+        number = shifted
+            .checked_add(u64::from(byte - b'0'))
+            .ok_or(Refusal::Field)?;
     }
     Ok(number)
 }
