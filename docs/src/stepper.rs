@@ -272,6 +272,13 @@ impl Board {
         &self.words[..self.announce_at(self.process_count(), 0)]
     }
 
+    /// Puts the board back into a state read from it before: its used words
+    /// and its processes, both from the first on.
+    pub fn resume(&mut self, words: &[u64], processes: &[Process]) {
+        self.words[..words.len()].copy_from_slice(words);
+        self.processes[..processes.len()].copy_from_slice(processes);
+    }
+
     fn process_count(&self) -> usize {
         self.settings.processes as usize
     }
