@@ -1,10 +1,12 @@
 //! Compares a program with the plain stepper, byte for byte, on schedules made
-//! from a seed, on the examples and at the limit of 1,000,000 records.
+//! from a seed, on the examples, on inputs at the edge of document 01's wording
+//! and at the limit of 1,000,000 records.
 //!
 //! Ends with 0 if every printout was the same, 1 on a difference, 2 if it
 //! could not be run, 3 if the schedules missed something they should reach.
 
 mod coverage;
+mod edges;
 mod generate;
 
 use coverage::Coverage;
@@ -19,6 +21,7 @@ use std::time::{Duration, Instant};
 const USAGE: &str = "usage: compare PROGRAM [--schedules N] [--seed S] [--examples DIR]
                            [--only INDEX] [--no-limit]
        compare --print INDEX [--seed S]
+       compare --print-long N [--seed S]
 
 PROGRAM is run on each schedule, standard input to standard output, and its
 printout compared with the plain stepper's.
@@ -27,7 +30,8 @@ printout compared with the plain stepper's.
 --examples DIR  also each NAME.csv in DIR against NAME.printout.csv
 --only INDEX    only this one schedule
 --no-limit      leave out the two runs at the limit of 1,000,000 records
---print INDEX   write this schedule to standard output and compare nothing";
+--print INDEX   write this schedule to standard output and compare nothing
+--print-long N  write a schedule of N records on the widest board, to time by";
 
 const DEFAULT_SCHEDULES: u64 = 3_000;
 const DEFAULT_SEED: u64 = 1997;
@@ -50,14 +54,11 @@ struct Options {
     only: Option<u64>,
     limit: bool,
     print: Option<u64>,
+    print_long: Option<u64>,
 }
 
 fn main() -> ExitCode {
-    let result = read_options().and_then(|options| match (options.print, &options.program) {
-        (Some(index), _) => print_schedule(options.seed, index),
-        (None, Some(program)) => compare_all(program, &options),
-        (None, None) => Err(Failure::Trouble(USAGE.to_string())),
-    });
+    let result = read_options().and_then(|options| perform(&options));
     match result {
         Ok(()) => ExitCode::SUCCESS,
         Err(Failure::Difference) => ExitCode::from(1),
@@ -72,6 +73,20 @@ fn main() -> ExitCode {
     }
 }
 
+fn perform(options: &Options) -> Result<(), Failure> {
+    let seed = options.seed;
+    if let Some(index) = options.print {
+        return write_out(&generate::schedule(seed, index).bytes);
+    }
+    if let Some(count) = options.print_long {
+        return write_out(&generate::long(seed, count));
+    }
+    match &options.program {
+        Some(program) => compare_all(program, options),
+        None => Err(Failure::Trouble(USAGE.to_string())),
+    }
+}
+
 fn read_options() -> Result<Options, Failure> {
     let mut options = Options {
         program: None,
@@ -81,6 +96,7 @@ fn read_options() -> Result<Options, Failure> {
         only: None,
         limit: true,
         print: None,
+        print_long: None,
     };
     let mut arguments = std::env::args().skip(1);
     while let Some(argument) = arguments.next() {
@@ -90,6 +106,7 @@ fn read_options() -> Result<Options, Failure> {
             "--seed" => number().map(|seed| options.seed = seed),
             "--only" => number().map(|index| options.only = Some(index)),
             "--print" => number().map(|index| options.print = Some(index)),
+            "--print-long" => number().map(|count| options.print_long = Some(count)),
             "--examples" => {
                 options.examples = arguments.next().map(PathBuf::from);
                 options.examples.is_some().then_some(())
@@ -109,9 +126,8 @@ fn read_options() -> Result<Options, Failure> {
     Ok(options)
 }
 
-fn print_schedule(seed: u64, index: u64) -> Result<(), Failure> {
-    let schedule = generate::schedule(seed, index);
-    let written = std::io::stdout().write_all(&schedule.bytes);
+fn write_out(schedule: &[u8]) -> Result<(), Failure> {
+    let written = std::io::stdout().write_all(schedule);
     written.map_err(|error| Failure::Trouble(error.to_string()))
 }
 
@@ -120,6 +136,7 @@ fn print_schedule(seed: u64, index: u64) -> Result<(), Failure> {
 struct Comparison<'a> {
     runner: Runner<'a>,
     coverage: Coverage,
+    rows: usize,
     /// How many schedules of each sort, in the order of `generate::Sort`.
     sorts: [u64; 6],
 }
@@ -131,6 +148,7 @@ fn compare_all(program: &Path, options: &Options) -> Result<(), Failure> {
     let mut comparison = Comparison {
         runner,
         coverage,
+        rows: 0,
         sorts: [0; 6],
     };
     if let Some(index) = options.only {
@@ -138,6 +156,7 @@ fn compare_all(program: &Path, options: &Options) -> Result<(), Failure> {
         println!("schedule {index} of seed {}: the same", options.seed);
         return Ok(());
     }
+    let edges = comparison.compare_edges()?;
     let examples = match &options.examples {
         Some(dir) => comparison.compare_examples(dir)?,
         None => 0,
@@ -148,7 +167,7 @@ fn compare_all(program: &Path, options: &Options) -> Result<(), Failure> {
     for index in 0..options.schedules {
         comparison.compare_generated(options.seed, index)?;
     }
-    comparison.report(options, examples, started.elapsed());
+    comparison.report(options, edges, examples, started.elapsed());
     comparison.check_coverage(options)
 }
 
@@ -190,29 +209,49 @@ impl Comparison<'_> {
         Ok(())
     }
 
-    fn compare_examples(&mut self, dir: &Path) -> Result<u64, Failure> {
+    /// Edges and examples have printouts of their own, which the plain stepper
+    /// has to give too.
+    fn compare_settled(
+        &mut self,
+        name: &str,
+        schedule: &[u8],
+        printout: &[u8],
+    ) -> Result<(), Failure> {
+        let plain = plain_printout(schedule);
+        if plain != printout {
+            tell_difference(
+                &format!("{name}, plain stepper"),
+                schedule,
+                printout,
+                &plain,
+            );
+            return Err(Failure::Difference);
+        }
+        self.coverage.watch(schedule);
+        self.compare(name, schedule, printout, Way::File)
+    }
+
+    fn compare_edges(&mut self) -> Result<usize, Failure> {
+        let edges = edges::edges();
+        for edge in &edges {
+            let name = format!("edge \"{}\"", edge.name);
+            self.compare_settled(&name, &edge.schedule, &edge.printout)?;
+        }
+        Ok(edges.len())
+    }
+
+    fn compare_examples(&mut self, dir: &Path) -> Result<usize, Failure> {
         let names = example_names(dir)?;
         for name in &names {
             let schedule = read_file(&dir.join(format!("{name}.csv")))?;
             let printout = read_file(&dir.join(format!("{name}.printout.csv")))?;
-            let plain = plain_printout(&schedule);
-            if plain != printout {
-                tell_difference(
-                    &format!("example {name}, plain stepper"),
-                    &schedule,
-                    &printout,
-                    &plain,
-                );
-                return Err(Failure::Difference);
-            }
-            self.coverage.watch(&schedule);
-            self.compare(&format!("example {name}"), &schedule, &printout, Way::File)?;
+            self.compare_settled(&format!("example {name}"), &schedule, &printout)?;
         }
-        Ok(names.len() as u64)
+        Ok(names.len())
     }
 
     fn compare(
-        &self,
+        &mut self,
         name: &str,
         schedule: &[u8],
         expected: &[u8],
@@ -220,20 +259,21 @@ impl Comparison<'_> {
     ) -> Result<(), Failure> {
         let printed = self.runner.run(name, schedule, way)?;
         if printed == expected {
+            self.rows += printed.iter().filter(|&&byte| byte == b'\n').count() - 1;
             return Ok(());
         }
         tell_difference(name, schedule, expected, &printed);
         Err(Failure::Difference)
     }
 
-    fn report(&self, options: &Options, examples: u64, taken: Duration) {
+    fn report(&self, options: &Options, edges: usize, examples: usize, taken: Duration) {
         println!(
-            "compared {} schedules of seed {}, {examples} examples and {} runs at the limit: \
-             {} rows, all the same, in {:.1} s",
+            "compared {} schedules of seed {}, {edges} edges, {examples} examples and {} runs at \
+             the limit: {} rows, all the same, in {:.1} s",
             options.schedules,
             options.seed,
             if options.limit { 2 } else { 0 },
-            self.coverage.rows,
+            self.rows,
             taken.as_secs_f64(),
         );
         let sorts = ["crowded", "wide", "noisy", "damaged", "bad set-up", "odd"];

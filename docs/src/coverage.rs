@@ -8,7 +8,6 @@ use stepper::{
 
 #[derive(Default)]
 pub struct Coverage {
-    pub rows: u64,
     values: u64,
     witnesses: u64,
     yes: u64,
@@ -48,7 +47,6 @@ impl Coverage {
         let mut board = match set_up(first, false) {
             Ok(board) => board,
             Err(refusal) => {
-                self.rows += 1;
                 self.refused_setups[refusal.number() as usize] += 1;
                 return;
             }
@@ -77,7 +75,6 @@ impl Coverage {
             loaded_at: [[0; MOST_VARIABLES]; MOST_PROCESSES],
         };
         while let Ok(Some(record)) = records.next_record() {
-            self.rows += 1;
             let mover = record
                 .fields()
                 .and_then(|fields| read_act(&fields, board.segment_count()));

@@ -100,6 +100,16 @@ pub fn counted(count: u64) -> Vec<u8> {
     bytes
 }
 
+/// A schedule of `count` records on the widest board, none meant to be refused.
+pub fn long(seed: u64, count: u64) -> Vec<u8> {
+    let mut random = Random::new(seed, 0);
+    let mut writer = Writer::new(&mut random, setup("many", 16, 16, 48, 4));
+    for _ in 0..count {
+        writer.likely_record();
+    }
+    writer.bytes
+}
+
 // ---------------------------------------------------------------- Set-ups
 
 type Body = Vec<u8>;
