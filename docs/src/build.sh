@@ -14,7 +14,7 @@ slips='cfg(slip, values("1", "2", "3", "4", "5", "6", "7"))'
 
 # stale FILE: true if FILE is missing or a source is newer.
 stale() {
-    [ ! -e "$1" ] || [ -n "$(find "$src" -name '*.rs' -newer "$1")" ]
+    [ ! -e "$1" ] || [ -n "$(find "$src" \( -name '*.rs' -o -name build.sh \) -newer "$1")" ]
 }
 
 # compile OUTPUT SOURCE [OPTION...]
@@ -23,16 +23,15 @@ compile() {
     source=$2
     shift 2
     if stale "$out/$target"; then
-        rustc -O -C codegen-units=1 --edition 2021 -D warnings --check-cfg "$slips" \
-            "$@" -o "$out/$target" "$src/$source"
+        rustc -O -C codegen-units=1 --edition 2021 -D warnings \
+            --check-cfg 'cfg(test)' --check-cfg "$slips" "$@" -o "$out/$target" "$src/$source"
     fi
 }
 
 compile libstepper.rlib stepper.rs --crate-type rlib --crate-name stepper
+compile stepper-tests stepper.rs --test
 for program in plain compare exhaustive; do
-    if [ -e "$src/$program.rs" ]; then
-        compile "$program" "$program.rs" --extern "stepper=$out/libstepper.rlib"
-    fi
+    compile "$program" "$program.rs" --extern "stepper=$out/libstepper.rlib"
 done
 
 # build.sh --slips: the broken variants too, each with its own stepper.
@@ -41,10 +40,8 @@ if [ "${1:-}" = --slips ]; then
         compile "libstepper-slip-$slip.rlib" stepper.rs \
             --crate-type rlib --crate-name stepper --cfg "slip=\"$slip\""
         for program in plain exhaustive; do
-            if [ -e "$src/$program.rs" ]; then
-                compile "$program-slip-$slip" "$program.rs" \
-                    --extern "stepper=$out/libstepper-slip-$slip.rlib"
-            fi
+            compile "$program-slip-$slip" "$program.rs" \
+                --extern "stepper=$out/libstepper-slip-$slip.rlib"
         done
     done
 fi

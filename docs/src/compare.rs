@@ -145,12 +145,7 @@ fn compare_all(program: &Path, options: &Options) -> Result<(), Failure> {
     let started = Instant::now();
     let runner = Runner::new(program)?;
     let coverage = Coverage::default();
-    let mut comparison = Comparison {
-        runner,
-        coverage,
-        rows: 0,
-        sorts: [0; 6],
-    };
+    let mut comparison = Comparison { runner, coverage, rows: 0, sorts: [0; 6] };
     if let Some(index) = options.only {
         comparison.compare_generated(options.seed, index)?;
         println!("schedule {index} of seed {}: the same", options.seed);
@@ -176,18 +171,9 @@ impl Comparison<'_> {
         let schedule = generate::schedule(seed, index);
         let name = format!("schedule {index} of seed {seed} ({:?})", schedule.sort);
         self.sorts[schedule.sort as usize] += 1;
-        let way = if index.is_multiple_of(2) {
-            Way::File
-        } else {
-            Way::Pipe
-        };
+        let way = if index.is_multiple_of(2) { Way::File } else { Way::Pipe };
         self.coverage.watch(&schedule.bytes);
-        self.compare(
-            &name,
-            &schedule.bytes,
-            &plain_printout(&schedule.bytes),
-            way,
-        )
+        self.compare(&name, &schedule.bytes, &plain_printout(&schedule.bytes), way)
     }
 
     /// The last record allowed, and the first one after it. Of these runs the
@@ -198,14 +184,8 @@ impl Comparison<'_> {
         self.compare("1,000,000 records", &schedule, &printout, Way::File)?;
         schedule.extend_from_slice(b"\"");
         let printout = plain_printout(&schedule);
-        self.compare(
-            "1,000,000 records and a byte",
-            &schedule,
-            &printout,
-            Way::File,
-        )?;
-        self.coverage
-            .note_limit(printout.ends_with(b"\r\n1000001,,,refused,,12,,,\r\n"));
+        self.compare("1,000,000 records and a byte", &schedule, &printout, Way::File)?;
+        self.coverage.note_limit(printout.ends_with(b"\r\n1000001,,,refused,,12,,,\r\n"));
         Ok(())
     }
 
@@ -219,12 +199,7 @@ impl Comparison<'_> {
     ) -> Result<(), Failure> {
         let plain = plain_printout(schedule);
         if plain != printout {
-            tell_difference(
-                &format!("{name}, plain stepper"),
-                schedule,
-                printout,
-                &plain,
-            );
+            tell_difference(&format!("{name}, plain stepper"), schedule, printout, &plain);
             return Err(Failure::Difference);
         }
         self.coverage.watch(schedule);
@@ -298,11 +273,7 @@ impl Comparison<'_> {
         if let Some((name, _)) = missed {
             return Err(Failure::Missed(name));
         }
-        let unseen = self
-            .coverage
-            .sizes()
-            .into_iter()
-            .find(|(_, seen, of)| seen < of);
+        let unseen = self.coverage.sizes().into_iter().find(|(_, seen, of)| seen < of);
         match unseen {
             Some((name, seen, of)) => Err(Failure::Missed(format!("{name}: {seen} of {of} sizes"))),
             None => Ok(()),
@@ -326,11 +297,7 @@ fn example_names(dir: &Path) -> Result<Vec<String>, Failure> {
     let trouble = |error| Failure::Trouble(format!("{}: {error}", dir.display()));
     let mut names = Vec::new();
     for entry in fs::read_dir(dir).map_err(trouble)? {
-        let file = entry
-            .map_err(trouble)?
-            .file_name()
-            .to_string_lossy()
-            .into_owned();
+        let file = entry.map_err(trouble)?.file_name().to_string_lossy().into_owned();
         if let Some(name) = file.strip_suffix(".csv") {
             if !name.ends_with(".printout") {
                 names.push(name.to_string());
@@ -379,9 +346,7 @@ impl Runner<'_> {
             if let Some(mut input) = child.stdin.take() {
                 // A program may end before it has read all: no error here.
                 scope.spawn(move || {
-                    schedule
-                        .chunks(PIECE)
-                        .try_for_each(|piece| input.write_all(piece))
+                    schedule.chunks(PIECE).try_for_each(|piece| input.write_all(piece))
                 });
             }
             let printed = output.recv_timeout(TIME_LIMIT);
@@ -408,10 +373,7 @@ impl Runner<'_> {
             }
             Way::Pipe => Stdio::piped(),
         };
-        Command::new(self.program)
-            .stdin(input)
-            .stdout(Stdio::piped())
-            .spawn()
+        Command::new(self.program).stdin(input).stdout(Stdio::piped()).spawn()
     }
 }
 
@@ -435,11 +397,7 @@ const SHOWN_BYTES: usize = 600;
 
 fn tell_difference(name: &str, schedule: &[u8], expected: &[u8], printed: &[u8]) {
     let (expected, printed) = (lines(expected), lines(printed));
-    let same = expected
-        .iter()
-        .zip(&printed)
-        .take_while(|(one, other)| one == other)
-        .count();
+    let same = expected.iter().zip(&printed).take_while(|(one, other)| one == other).count();
     println!("DIFFERENCE in {name}, at line {} of the printout", same + 1);
     println!("the schedule up to there:");
     tell_schedule(schedule, same + 1);
@@ -473,11 +431,8 @@ fn tell_lines(rest: &[&[u8]]) {
 
 fn shown(line: &[u8]) -> String {
     let cut = &line[..line.len().min(SHOWN_BYTES)];
-    let more = if cut.len() < line.len() {
-        format!("... ({} bytes)", line.len())
-    } else {
-        String::new()
-    };
+    let more =
+        if cut.len() < line.len() { format!("... ({} bytes)", line.len()) } else { String::new() };
     format!("{}{more}", cut.escape_ascii())
 }
 
@@ -486,10 +441,7 @@ fn lines(bytes: &[u8]) -> Vec<&[u8]> {
     let mut result = Vec::new();
     let mut rest = bytes;
     while !rest.is_empty() {
-        let end = rest
-            .windows(2)
-            .position(|pair| pair == b"\r\n")
-            .map_or(rest.len(), |at| at + 2);
+        let end = rest.windows(2).position(|pair| pair == b"\r\n").map_or(rest.len(), |at| at + 2);
         let (line, behind) = rest.split_at(end);
         result.push(line);
         rest = behind;

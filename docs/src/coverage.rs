@@ -75,9 +75,7 @@ impl Coverage {
             loaded_at: [[0; MOST_VARIABLES]; MOST_PROCESSES],
         };
         while let Ok(Some(record)) = records.next_record() {
-            let mover = record
-                .fields()
-                .and_then(|fields| read_act(&fields, board.segment_count()));
+            let mover = record.fields().and_then(|fields| read_act(&fields, board.segment_count()));
             let before = match mover {
                 Ok((process, Act::Step)) if process < board.settings().processes => {
                     Some((process as usize, board.process(process as usize).place))
@@ -188,10 +186,7 @@ impl Coverage {
             ("no", self.no),
             ("failed segment swaps", self.failed_segment_swaps),
             ("second reads", self.second_reads),
-            (
-                "second reads that found the announce row overwritten",
-                self.overwritten_rows,
-            ),
+            ("second reads that found the announce row overwritten", self.overwritten_rows),
             ("segments filled by another's load", self.helping_swaps),
             ("failed header swaps", self.failed_header_swaps),
             ("stores cut short in Copy, yes", self.stores_cut_short),
@@ -204,10 +199,7 @@ impl Coverage {
             counts.push((format!("refused {number}"), self.refused[number]));
         }
         for number in [1, 10, 11] {
-            counts.push((
-                format!("set-up refused {number}"),
-                self.refused_setups[number],
-            ));
+            counts.push((format!("set-up refused {number}"), self.refused_setups[number]));
         }
         counts
     }

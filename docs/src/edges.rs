@@ -21,11 +21,7 @@ fn edge(name: &'static str, schedule: &[u8], lines: &[String]) -> Edge {
         printout += line;
         printout += "\r\n";
     }
-    Edge {
-        name,
-        schedule: schedule.to_vec(),
-        printout: printout.into_bytes(),
-    }
+    Edge { name, schedule: schedule.to_vec(), printout: printout.into_bytes() }
 }
 
 /// A whole input whose set-up is refused.
@@ -35,15 +31,8 @@ fn refused(name: &'static str, schedule: &[u8], number: u64) -> Edge {
 
 /// Records behind an accepted set-up, with their rows less the record number.
 fn after(setup: &[u8], name: &'static str, records: &[u8], rows: &[&str]) -> Edge {
-    let numbered = rows
-        .iter()
-        .zip(1..)
-        .map(|(row, number)| format!("{number},{row}"));
-    edge(
-        name,
-        &[setup, records].concat(),
-        &numbered.collect::<Vec<_>>(),
-    )
+    let numbered = rows.iter().zip(1..).map(|(row, number)| format!("{number},{row}"));
+    edge(name, &[setup, records].concat(), &numbered.collect::<Vec<_>>())
 }
 
 fn records(name: &'static str, records: &[u8], rows: &[&str]) -> Edge {
@@ -51,17 +40,7 @@ fn records(name: &'static str, records: &[u8], rows: &[&str]) -> Edge {
 }
 
 pub fn edges() -> Vec<Edge> {
-    [
-        line_ends(),
-        lengths(),
-        bytes(),
-        set_ups(),
-        fields(),
-        orders(),
-    ]
-    .into_iter()
-    .flatten()
-    .collect()
+    [line_ends(), lengths(), bytes(), set_ups(), fields(), orders()].into_iter().flatten().collect()
 }
 
 fn line_ends() -> Vec<Edge> {
@@ -74,51 +53,19 @@ fn line_ends() -> Vec<Edge> {
         records("a set-up alone", b"", &[]),
         edge("a set-up without its pair", b"1,one,1,4,1,,", &[]),
         refused("a set-up with half its pair", b"1,one,1,4,1,,\r", 10),
-        records(
-            "a last record without its pair",
-            b"0,step,,,,,",
-            &[STEP_ROW],
-        ),
-        records(
-            "an empty record",
-            &[b"\r\n", STEP].concat(),
-            &[TEN, STEP_ROW],
-        ),
-        records(
-            "an empty record last",
-            &[STEP, b"\r\n"].concat(),
-            &[STEP_ROW, TEN],
-        ),
+        records("a last record without its pair", b"0,step,,,,,", &[STEP_ROW]),
+        records("an empty record", &[b"\r\n", STEP].concat(), &[TEN, STEP_ROW]),
+        records("an empty record last", &[STEP, b"\r\n"].concat(), &[STEP_ROW, TEN]),
         records("half a pair at the end", b"0,step,,,,,\r", &[TEN]),
-        records(
-            "a CR behind the last pair",
-            &[STEP, b"\r"].concat(),
-            &[STEP_ROW, TEN],
-        ),
+        records("a CR behind the last pair", &[STEP, b"\r"].concat(), &[STEP_ROW, TEN]),
         records("an LF at the end", b"0,step,,,,,\n", &[TEN]),
         refused("LF for line ends", b"1,one,1,4,1,,\n0,step,,,,,\n", 10),
         refused("CR for line ends", b"1,one,1,4,1,,\r0,step,,,,,\r", 10),
-        records(
-            "an LF between",
-            &[b"0,step,,,,,\n", STEP, STEP].concat(),
-            &[TEN, STEP_ROW],
-        ),
-        records(
-            "CR CR LF",
-            &[b"0,step,,,,,\r\r\n", STEP].concat(),
-            &[TEN, STEP_ROW],
-        ),
+        records("an LF between", &[b"0,step,,,,,\n", STEP, STEP].concat(), &[TEN, STEP_ROW]),
+        records("CR CR LF", &[b"0,step,,,,,\r\r\n", STEP].concat(), &[TEN, STEP_ROW]),
         records("CR LF LF", &[STEP, b"\n", STEP].concat(), &[STEP_ROW, TEN]),
-        records(
-            "LF CR LF",
-            &[b"0,step,,,,,\n\r\n", STEP].concat(),
-            &[TEN, STEP_ROW],
-        ),
-        records(
-            "a pair between marks",
-            b"\"0\r\n0\",step,,,,,\r\n",
-            &[TEN, TEN],
-        ),
+        records("LF CR LF", &[b"0,step,,,,,\n\r\n", STEP].concat(), &[TEN, STEP_ROW]),
+        records("a pair between marks", b"\"0\r\n0\",step,,,,,\r\n", &[TEN, TEN]),
     ]
 }
 
@@ -148,11 +95,7 @@ fn bytes() -> Vec<Edge> {
     vec![
         records("NUL", b"\0,step,,,,,\r\n", &[ELEVEN]),
         records("a byte over 127", b"0,step\xff,,,,,\r\n", &[ELEVEN]),
-        records(
-            "digits of another script",
-            b"\xd9\xa0,step,,,,,\r\n",
-            &[ELEVEN],
-        ),
+        records("digits of another script", b"\xd9\xa0,step,,,,,\r\n", &[ELEVEN]),
         refused("a byte-order mark", b"\xef\xbb\xbf1,one,1,4,1,,\r\n", 11),
         records("a blank before", b" 0,step,,,,,\r\n", &[ELEVEN]),
         records("a blank behind", b"0,step ,,,,,\r\n", &[ELEVEN]),
@@ -186,17 +129,8 @@ fn set_ups() -> Vec<Edge> {
         refused("sixth field filled", b"1,one,1,4,1,0,\r\n", 11),
         refused("seventh field filled", b"1,one,1,4,1,,0\r\n", 11),
         refused("no set-up", b"0,LL,0,,,,\r\n0,step,,,,,\r\n", 11),
-        refused(
-            "nothing after a refused set-up",
-            &[b"1,one,1,3,1,,\r\n", SETUP, STEP].concat(),
-            1,
-        ),
-        after(
-            b"16,many,16,48,4,,\r\n",
-            "the greatest sizes",
-            STEP,
-            &[STEP_ROW],
-        ),
+        refused("nothing after a refused set-up", &[b"1,one,1,3,1,,\r\n", SETUP, STEP].concat(), 1),
+        after(b"16,many,16,48,4,,\r\n", "the greatest sizes", STEP, &[STEP_ROW]),
         records("a second set-up", SETUP, &[ELEVEN]),
     ]
 }
@@ -217,26 +151,10 @@ fn fields() -> Vec<Edge> {
         records("validate with a value", b"0,VL,0,,,,1\r\n", &[ELEVEN]),
         records("store without a value", b"0,SC,0,,,,\r\n", &[ELEVEN]),
         records("store with a value past W", b"0,SC,0,1,0,,\r\n", &[ELEVEN]),
-        records(
-            "process 2^64 - 1",
-            b"18446744073709551615,step,,,,,\r\n",
-            &[max],
-        ),
-        records(
-            "process 2^64",
-            b"18446744073709551616,step,,,,,\r\n",
-            &[ELEVEN],
-        ),
-        records(
-            "process 256",
-            b"256,LL,0,,,,\r\n",
-            &["256,LL,refused,,4,,,"],
-        ),
-        records(
-            "variable 2^32",
-            b"0,LL,4294967296,,,,\r\n",
-            &["0,LL,refused,0,5,,,"],
-        ),
+        records("process 2^64 - 1", b"18446744073709551615,step,,,,,\r\n", &[max]),
+        records("process 2^64", b"18446744073709551616,step,,,,,\r\n", &[ELEVEN]),
+        records("process 256", b"256,LL,0,,,,\r\n", &["256,LL,refused,,4,,,"]),
+        records("variable 2^32", b"0,LL,4294967296,,,,\r\n", &["0,LL,refused,0,5,,,"]),
     ]
 }
 
@@ -251,27 +169,11 @@ fn orders() -> Vec<Edge> {
     vec![
         records("11 before 4", b"99,LL,,,,,\r\n", &[ELEVEN]),
         records("4 before 5", b"1,LL,1,,,,\r\n", &["1,LL,refused,,4,,,"]),
-        records(
-            "5 before 6",
-            b"0,LL,0,,,,\r\n0,LL,1,,,,\r\n",
-            &[begun, "0,LL,refused,0,5,,,"],
-        ),
+        records("5 before 6", b"0,LL,0,,,,\r\n0,LL,1,,,,\r\n", &[begun, "0,LL,refused,0,5,,,"]),
         records("5 before 7", b"0,VL,1,,,,\r\n", &["0,VL,refused,0,5,,,"]),
-        records(
-            "6 before 7",
-            b"0,LL,0,,,,\r\n0,VL,0,,,,\r\n",
-            &[begun, "0,VL,refused,0,6,,,"],
-        ),
+        records("6 before 7", b"0,LL,0,,,,\r\n0,VL,0,,,,\r\n", &[begun, "0,VL,refused,0,6,,,"]),
         records("7 before 8", wide, &["0,SC,refused,0,7,,,"]),
-        records(
-            "8",
-            &[load, wide].concat(),
-            &[begun, loaded, "0,SC,refused,1,8,,,"],
-        ),
-        records(
-            "no 8",
-            &[load, widest].concat(),
-            &[begun, loaded, "0,SC,begun,1,,,,"],
-        ),
+        records("8", &[load, wide].concat(), &[begun, loaded, "0,SC,refused,1,8,,,"]),
+        records("no 8", &[load, widest].concat(), &[begun, loaded, "0,SC,begun,1,,,,"]),
     ]
 }

@@ -30,43 +30,19 @@ struct Exploration {
 
 const fn board(kind: Kind, processes: u64, variables: u64, segments: u64) -> Settings {
     let tag_bits = 4;
-    Settings {
-        kind,
-        processes,
-        variables,
-        tag_bits,
-        segments,
-    }
+    Settings { kind, processes, variables, tag_bits, segments }
 }
 
 /// Demand 3's premise at b = 4: with one variable these orders are all of it.
 const PREMISE: usize = 14;
 
 const EXPLORATIONS: [Exploration; 6] = [
-    Exploration {
-        settings: board(Kind::One, 2, 1, 1),
-        stores: PREMISE,
-    },
-    Exploration {
-        settings: board(Kind::Many, 2, 1, 1),
-        stores: PREMISE,
-    },
-    Exploration {
-        settings: board(Kind::Many, 2, 1, 2),
-        stores: PREMISE,
-    },
-    Exploration {
-        settings: board(Kind::Many, 3, 1, 1),
-        stores: 2,
-    },
-    Exploration {
-        settings: board(Kind::Many, 1, 2, 1),
-        stores: PREMISE,
-    },
-    Exploration {
-        settings: board(Kind::Many, 2, 2, 1),
-        stores: 3,
-    },
+    Exploration { settings: board(Kind::One, 2, 1, 1), stores: PREMISE },
+    Exploration { settings: board(Kind::Many, 2, 1, 1), stores: PREMISE },
+    Exploration { settings: board(Kind::Many, 2, 1, 2), stores: PREMISE },
+    Exploration { settings: board(Kind::Many, 3, 1, 1), stores: 2 },
+    Exploration { settings: board(Kind::Many, 1, 2, 1), stores: PREMISE },
+    Exploration { settings: board(Kind::Many, 2, 2, 1), stores: 3 },
 ];
 
 // ---------------------------------------------------------------- States
@@ -90,11 +66,7 @@ impl State {
         let used = board.used_words();
         words[..used.len()].copy_from_slice(used);
         let processes = std::array::from_fn(|p| *board.process(p));
-        State {
-            words,
-            processes,
-            onlooker,
-        }
+        State { words, processes, onlooker }
     }
 
     /// Two states with the same fingerprint are taken to be one. It leaves out
@@ -255,11 +227,7 @@ impl Walk<'_> {
             for var in 0..settings.variables as usize {
                 events.push(Event::Begin(p, Call::Load(var as u64), [0; MOST_SEGMENTS]));
                 if state.onlooker.is_open(p, var) {
-                    events.push(Event::Begin(
-                        p,
-                        Call::Validate(var as u64),
-                        [0; MOST_SEGMENTS],
-                    ));
+                    events.push(Event::Begin(p, Call::Validate(var as u64), [0; MOST_SEGMENTS]));
                     self.push_stores(&mut events, &state.onlooker, p, var);
                 }
             }
@@ -278,11 +246,7 @@ impl Walk<'_> {
         }
         events.push(Event::Begin(p, Call::Store(var as u64), fresh));
         if self.exploration.settings.kind == Kind::One {
-            events.push(Event::Begin(
-                p,
-                Call::Store(var as u64),
-                onlooker.value(var),
-            ));
+            events.push(Event::Begin(p, Call::Store(var as u64), onlooker.value(var)));
         }
     }
 
@@ -375,17 +339,11 @@ fn main() -> ExitCode {
     let started = Instant::now();
     for exploration in EXPLORATIONS {
         let stores = stores.unwrap_or(exploration.stores);
-        if !explore(&Exploration {
-            stores,
-            ..exploration
-        }) {
+        if !explore(&Exploration { stores, ..exploration }) {
             return ExitCode::FAILURE;
         }
     }
-    println!(
-        "every answer as it must be, in {:.1} s",
-        started.elapsed().as_secs_f64()
-    );
+    println!("every answer as it must be, in {:.1} s", started.elapsed().as_secs_f64());
     ExitCode::SUCCESS
 }
 
@@ -401,13 +359,7 @@ fn explore(exploration: &Exploration) -> bool {
 }
 
 fn setup_record(settings: &Settings) -> String {
-    let Settings {
-        processes,
-        variables,
-        tag_bits,
-        segments,
-        ..
-    } = settings;
+    let Settings { processes, variables, tag_bits, segments, .. } = settings;
     let kind = match settings.kind {
         Kind::One => "one",
         Kind::Many => "many",
@@ -417,21 +369,13 @@ fn setup_record(settings: &Settings) -> String {
 
 fn tell(walk: &Walk, depth: u32, taken: Duration) {
     let Exploration { settings, stores } = walk.exploration;
-    println!(
-        "{} all orders of any length with at most {stores} stores:",
-        setup_record(settings),
-    );
+    println!("{} all orders of any length with at most {stores} stores:", setup_record(settings),);
     println!(
         "    {} states, the farthest after {depth} begins and steps, in {:.1} s",
         walk.seen.len(),
         taken.as_secs_f64(),
     );
-    let Answers {
-        values,
-        witnesses,
-        yes,
-        no,
-    } = walk.answers;
+    let Answers { values, witnesses, yes, no } = walk.answers;
     println!("    answers checked: {values} values, {witnesses} witnesses, {yes} yes, {no} no");
 }
 

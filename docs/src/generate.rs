@@ -86,12 +86,7 @@ pub fn schedule(seed: u64, index: u64) -> Schedule {
 /// A schedule of exactly `count` records behind the smallest set-up, for the
 /// limit of 1,000,000.
 pub fn counted(count: u64) -> Vec<u8> {
-    let round: [&[u8]; 4] = [
-        b"0,LL,0,,,,",
-        b"0,step,,,,,",
-        b"0,SC,0,7,,,",
-        b"0,step,,,,,",
-    ];
+    let round: [&[u8]; 4] = [b"0,LL,0,,,,", b"0,step,,,,,", b"0,SC,0,7,,,", b"0,step,,,,,"];
     let mut bytes = b"1,one,1,4,1,,\r\n".to_vec();
     for number in 0..count {
         bytes.extend_from_slice(round[(number % 4) as usize]);
@@ -121,11 +116,7 @@ fn setup(kind: &str, processes: u64, variables: u64, tag_bits: u64, segments: u6
 fn crowded_setup(random: &mut Random) -> Body {
     let processes = random.pick(&[2, 2, 2, 3, 3, 4]);
     let variables = random.pick(&[1, 1, 1, 2, 2, 3]);
-    let tag_bits = if random.chance(75) {
-        4
-    } else {
-        random.between(4, 48)
-    };
+    let tag_bits = if random.chance(75) { 4 } else { random.between(4, 48) };
     if random.chance(30) {
         setup("one", processes, variables, tag_bits, 1)
     } else {
@@ -197,15 +188,8 @@ impl Writer<'_> {
         let processes = board.settings().processes;
         let stick = random.pick(&[0, 30, 60, 80, 90, 95]);
         let sleeper = random.chance(50).then(|| random.below(processes) as usize);
-        let mut writer = Writer {
-            random,
-            board,
-            bytes: Vec::new(),
-            last: 0,
-            stick,
-            sleeper,
-            slept: 0,
-        };
+        let mut writer =
+            Writer { random, board, bytes: Vec::new(), last: 0, stick, sleeper, slept: 0 };
         writer.push(&first);
         writer
     }
@@ -238,11 +222,7 @@ impl Writer<'_> {
     /// to have wrapped, and one that it keeps is there once more.
     fn waking(&mut self) -> Option<usize> {
         let sleeper = self.sleeper?;
-        self.slept = if self.last == sleeper {
-            0
-        } else {
-            self.slept + 1
-        };
+        self.slept = if self.last == sleeper { 0 } else { self.slept + 1 };
         let due = self.slept > LONG_SLEEP && self.meets_old_tag(sleeper);
         (due && self.random.chance(30)).then_some(sleeper)
     }
@@ -353,9 +333,8 @@ const NOT_IN_FORM: [&[u8]; 20] = [
     b"1\0",
 ];
 
-const NO_ACTS: [&[u8]; 12] = [
-    b"", b"ll", b"Ll", b"vl", b"sc", b"Step", b"STEP", b"steps", b"LL ", b" SC", b"CAS", b"one",
-];
+const NO_ACTS: [&[u8]; 12] =
+    [b"", b"ll", b"Ll", b"vl", b"sc", b"Step", b"STEP", b"steps", b"LL ", b" SC", b"CAS", b"one"];
 
 impl Writer<'_> {
     fn refused_record(&mut self) {
@@ -397,9 +376,7 @@ impl Writer<'_> {
         let processes = self.board.settings().processes as usize;
         let from = self.someone();
         let mut around = (0..processes).map(|step| (from + step) % processes);
-        let process = around
-            .find(|&process| self.is_busy(process))
-            .unwrap_or(from);
+        let process = around.find(|&process| self.is_busy(process)).unwrap_or(from);
         let var = self.random.below(self.board.settings().variables);
         match self.random.below(3) {
             0 => self.load(process).into_bytes(),
@@ -439,9 +416,7 @@ impl Writer<'_> {
         let processes = self.board.settings().processes as usize;
         let from = self.someone();
         let mut around = (0..processes).map(|step| (from + step) % processes);
-        let process = around
-            .find(|&process| !self.is_busy(process))
-            .unwrap_or(from);
+        let process = around.find(|&process| !self.is_busy(process)).unwrap_or(from);
         format!("{process},step,,,,,").into_bytes()
     }
 
@@ -464,9 +439,7 @@ impl Writer<'_> {
         fields[at] = if at == 1 {
             self.random.pick(&NO_ACTS).to_vec()
         } else if fields[at].is_empty() {
-            self.random
-                .pick(&[&b"0"[..], b"7", b" ", b"x", b"\0"])
-                .to_vec()
+            self.random.pick(&[&b"0"[..], b"7", b" ", b"x", b"\0"]).to_vec()
         } else {
             self.random.pick(&NOT_IN_FORM).to_vec()
         };
@@ -505,10 +478,8 @@ impl Writer<'_> {
 }
 
 fn quoted(body: &[u8]) -> Body {
-    let fields: Vec<Body> = body
-        .split(|&byte| byte == b',')
-        .map(|field| [&b"\""[..], field, b"\""].concat())
-        .collect();
+    let fields: Vec<Body> =
+        body.split(|&byte| byte == b',').map(|field| [&b"\""[..], field, b"\""].concat()).collect();
     fields.join(&b',')
 }
 
@@ -524,21 +495,13 @@ fn damaged(random: &mut Random) -> Vec<u8> {
     bytes
 }
 
-const DAMAGE: [u8; 16] = [
-    b'"', b'\r', b'\n', b',', b' ', b'0', b'1', b'9', b'L', b'C', b's', 0, 127, 128, 255, b'\t',
-];
+const DAMAGE: [u8; 16] =
+    [b'"', b'\r', b'\n', b',', b' ', b'0', b'1', b'9', b'L', b'C', b's', 0, 127, 128, 255, b'\t'];
 
 /// One change, seldom within the set-up, so that the run gets past it.
 fn damage(random: &mut Random, bytes: &mut Vec<u8>) {
-    let setup_end = bytes
-        .iter()
-        .position(|&byte| byte == b'\n')
-        .map_or(0, |at| at + 1);
-    let from = if random.chance(8) {
-        0
-    } else {
-        setup_end.min(bytes.len())
-    };
+    let setup_end = bytes.iter().position(|&byte| byte == b'\n').map_or(0, |at| at + 1);
+    let from = if random.chance(8) { 0 } else { setup_end.min(bytes.len()) };
     let at = from + random.below((bytes.len() - from) as u64 + 1) as usize;
     let upto = (at + random.between(1, 40) as usize).min(bytes.len());
     match random.below(10) {
@@ -611,10 +574,7 @@ const BAD_KINDS: [&str; 8] = ["", "One", "ONE", "many ", " one", "queue", "two",
 fn bad_setup(random: &mut Random) -> Vec<u8> {
     let setup = random.pick(&[crowded_setup, wide_setup]);
     let whole = well_formed(random, setup, 0);
-    let end = whole
-        .windows(2)
-        .position(|pair| pair == b"\r\n")
-        .unwrap_or(whole.len());
+    let end = whole.windows(2).position(|pair| pair == b"\r\n").unwrap_or(whole.len());
     let (first, rest) = whole.split_at(end);
     let mut fields: Vec<Body> = first.split(|&byte| byte == b',').map(Body::from).collect();
     for _ in 0..random.between(1, 2) {
@@ -646,16 +606,7 @@ fn odd_input(random: &mut Random) -> Vec<u8> {
     match random.below(16) {
         0 => Vec::new(),
         1 => random
-            .pick(&[
-                &b"\r\n"[..],
-                b"\n",
-                b"\r",
-                b"\r\n\r\n",
-                b"\n\r",
-                b"\0",
-                b",",
-                b"\r\r\n",
-            ])
+            .pick(&[&b"\r\n"[..], b"\n", b"\r", b"\r\n\r\n", b"\n\r", b"\0", b",", b"\r\r\n"])
             .to_vec(),
         2 => replaced(&whole, b"\n"),
         3 => replaced(&whole, b"\r"),
@@ -663,24 +614,15 @@ fn odd_input(random: &mut Random) -> Vec<u8> {
         5 => replaced(&whole, b"\n\r\n"),
         6 => [&b"\xef\xbb\xbf"[..], &whole].concat(),
         7 => first,
-        8 => [
-            &first[..],
-            random.pick(&[&b"\r"[..], b"\n", b"\r\n", b"\r\n\r", b"\r\n\n"]),
-        ]
-        .concat(),
+        8 => {
+            [&first[..], random.pick(&[&b"\r"[..], b"\n", b"\r\n", b"\r\n\r", b"\r\n\n"])].concat()
+        }
         9 => [&first[..], b"\r\n\r\n", &first, b"\r\n"].concat(),
-        10 => [
-            &whole[..],
-            random.pick(&[&b"\r"[..], b"\n", b"\r\n", b"0,step,,,,,\r", b"\r\r"]),
-        ]
-        .concat(),
+        10 => [&whole[..], random.pick(&[&b"\r"[..], b"\n", b"\r\n", b"0,step,,,,,\r", b"\r\r"])]
+            .concat(),
         11 | 12 => last_record_of(random, first),
-        13 => (0..random.between(1, 300))
-            .map(|_| random.next() as u8)
-            .collect(),
-        14 => (0..random.between(1, 300))
-            .map(|_| random.pick(&DAMAGE))
-            .collect(),
+        13 => (0..random.between(1, 300)).map(|_| random.next() as u8).collect(),
+        14 => (0..random.between(1, 300)).map(|_| random.pick(&DAMAGE)).collect(),
         _ => schedule_first(whole),
     }
 }
@@ -709,9 +651,6 @@ fn last_record_of(random: &mut Random, mut bytes: Vec<u8>) -> Vec<u8> {
 
 /// A schedule whose set-up record is missing.
 fn schedule_first(whole: Vec<u8>) -> Vec<u8> {
-    let end = whole
-        .iter()
-        .position(|&byte| byte == b'\n')
-        .map_or(whole.len(), |at| at + 1);
+    let end = whole.iter().position(|&byte| byte == b'\n').map_or(whole.len(), |at| at + 1);
     whole[end..].to_vec()
 }

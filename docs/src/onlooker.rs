@@ -104,10 +104,7 @@ impl Onlooker {
         }
         let left = answer == Answer::Busy;
         let most = self.most_steps(s, p);
-        must(
-            self.steps[p] + u32::from(left) <= most,
-            "a call takes too many steps",
-        )?;
+        must(self.steps[p] + u32::from(left) <= most, "a call takes too many steps")?;
         if !left {
             self.ended(p);
         }
@@ -135,21 +132,12 @@ impl Onlooker {
         match answer {
             Answer::Busy => Ok(()),
             Answer::Value(values) => {
-                must(
-                    values == self.told[p],
-                    "a load answers other values than atomic LL",
-                )?;
-                must(
-                    stored.is_none(),
-                    "a load answers values though a store came between",
-                )
+                must(values == self.told[p], "a load answers other values than atomic LL")?;
+                must(stored.is_none(), "a load answers values though a store came between")
             }
             Answer::Witness(process) => {
                 must(kind == Kind::Many, "a witness in kind one")?;
-                must(
-                    stored == Some(process as usize),
-                    "a witness is not the last that stored",
-                )
+                must(stored == Some(process as usize), "a witness is not the last that stored")
             }
             _ => Err("no answer of a load"),
         }
@@ -185,10 +173,7 @@ impl Onlooker {
     }
 
     fn no(&self, p: usize, var: usize) -> Verdict {
-        must(
-            !self.valid[p][var],
-            "the answer is no where the atomic one is yes",
-        )?;
+        must(!self.valid[p][var], "the answer is no where the atomic one is yes")?;
         let by_another = self.stored_since[p][var].is_some_and(|storer| storer != p);
         must(by_another, "a no without a store by another process")
     }
