@@ -1,5 +1,6 @@
 //! Inputs at the edge of document 01's wording, each with the printout worked
-//! out by hand, so that a reading both programs share by mistake still shows.
+//! out by hand, so that a slip made in both programs still shows. Where document
+//! 01 is open they follow docs/DECISIONS.md, as both programs do.
 
 pub struct Edge {
     pub name: &'static str,

@@ -1,4 +1,5 @@
-//! The step simulator in plain Rust, written from document 01 alone.
+//! The step simulator in plain Rust, written from document 01 and
+//! not from the proved code.
 //!
 //! It is the outside that the proved program is compared with, byte for byte,
 //! and the measure of its speed. `board` has the steps, `records` the reading
