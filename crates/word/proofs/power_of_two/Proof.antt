@@ -1,3 +1,4 @@
+-- `power_of_two` meets its contract: a one, shifted. Assumes nothing.
 use mathlib.Core.Path.{ap, _∙_}
 use Prim.Native.Nat.{ℕ, _%_, _^_}
 use native.Mathlib.Nat.{one-mul, mod-eq-of-lt}
@@ -5,8 +6,6 @@ use lib.Pow.{pow-lt}
 use borrow.Author.Needs.{needs}
 use Rattle.word.proofs.power_of_two.Statement.{statement}
 use Rattle.word.proofs.power_of_two.Tie as tie
-use Rattle.word.proofs.power_of_two.Reads as reads
-use Rattle.word.proofs.power_of_two.Lts as lts
 
 shl-result : tie.Need-shl-result
 shl-result c = search needs

@@ -1,14 +1,9 @@
+-- `Layout::next_tag` meets its contract: a wrapping sum and a remainder. Assumes nothing.
 use lib.Pow.{pow-pos}
 use Rattle.word.proofs.Laws as laws
-use Prim.Native.Nat.{ℕ, zero, _+_, _*_, _%_, _/_, _^_, _<_}
-use mathlib.Core.Path.{_≡_, ap, _∙_, sym, subst}
 use borrow.Author.Needs.{needs}
 use Rattle.word.proofs.Layout.next_tag.Statement.{statement}
 use Rattle.word.proofs.Layout.next_tag.Tie as tie
-use Rattle.word.proofs.Layout.next_tag.Reads as reads
-use Rattle.word.proofs.Layout.next_tag.Lts as lts
-use Rattle.std.proofs.num.wrapping_add_u64.Reads as wrapping-add-u64-reads
-use Rattle.word.proofs.Layout.tag_limit.Reads as tag-limit-reads
 
 wrapping-add-u64-requires : tie.Need-wrapping-add-u64-requires
 wrapping-add-u64-requires c κs = search needs

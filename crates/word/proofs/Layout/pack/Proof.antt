@@ -1,12 +1,8 @@
+-- `Layout::pack` meets its contract: each return picks the rule's case by the tests that led to it. Assumes nothing.
 use borrow.Author.Tests.{le-ltb, lt-ltb, le-leb, lt-leb}
 use borrow.Author.Needs.{needs}
 use Rattle.word.proofs.Layout.pack.Statement.{statement}
 use Rattle.word.proofs.Layout.pack.Tie as tie
-use Rattle.word.proofs.Layout.pack.Reads as reads
-use Rattle.word.proofs.Layout.pack.Lts as lts
-use Rattle.word.proofs.Layout.word_of.Reads as word-of-reads
-use Rattle.word.proofs.Layout.tag_limit.Reads as tag-limit-reads
-use Rattle.word.proofs.Layout.value_limit.Reads as value-limit-reads
 
 returns : tie.Need-returns
 returns c = simp (lt-leb _ _ (c .if1 .taken))
@@ -18,19 +14,43 @@ tag-limit-requires : tie.Need-tag-limit-requires
 tag-limit-requires c κs = search needs
 
 returns-3 : tie.Need-returns-3
-returns-3 c = simp (le-leb _ _ (c .before .before .before .if1 .left), le-leb _ _ (c .before .before .if2 .left), le-ltb _ _ (rw (c .before .tag-limit .ensures) at (c .if3 .taken)))
+returns-3 c =
+    let bits-test = c .before .before in
+    simp (
+      le-leb _ _ (bits-test .before .if1 .left),
+      le-leb _ _ (bits-test .if2 .left),
+      le-ltb _ _ (rw (c .before .tag-limit .ensures) at (c .if3 .taken)),
+    )
 
 value-limit-requires : tie.Need-value-limit-requires
 value-limit-requires c κs = search needs
 
 returns-4 : tie.Need-returns-4
-returns-4 c = simp (le-leb _ _ (c .before .before .before .before .before .if1 .left), le-leb _ _ (c .before .before .before .before .if2 .left), lt-ltb _ _ (rw (c .before .before .before .tag-limit .ensures) at (c .before .before .if3 .left)), le-ltb _ _ (rw (c .before .value-limit .ensures) at (c .if4 .taken)))
+returns-4 c =
+    let tag-test = c .before .before in
+    let bits-test = tag-test .before .before in
+    simp (
+      le-leb _ _ (bits-test .before .if1 .left),
+      le-leb _ _ (bits-test .if2 .left),
+      lt-ltb _ _ (rw (tag-test .before .tag-limit .ensures) at (tag-test .if3 .left)),
+      le-ltb _ _ (rw (c .before .value-limit .ensures) at (c .if4 .taken)),
+    )
 
 word-of-requires : tie.Need-word-of-requires
 word-of-requires c κs = search needs
 
 returns-5 : tie.Need-returns-5
-returns-5 c = simp (le-leb _ _ (c .before .before .before .before .before .before .if1 .left), le-leb _ _ (c .before .before .before .before .before .if2 .left), lt-ltb _ _ (rw (c .before .before .before .before .tag-limit .ensures) at (c .before .before .before .if3 .left)), lt-ltb _ _ (rw (c .before .before .value-limit .ensures) at (c .before .if4 .left)), c .word-of .ensures)
+returns-5 c =
+    let value-test = c .before in
+    let tag-test = value-test .before .before in
+    let bits-test = tag-test .before .before in
+    simp (
+      le-leb _ _ (bits-test .before .if1 .left),
+      le-leb _ _ (bits-test .if2 .left),
+      lt-ltb _ _ (rw (tag-test .before .tag-limit .ensures) at (tag-test .if3 .left)),
+      lt-ltb _ _ (rw (value-test .before .value-limit .ensures) at (value-test .if4 .left)),
+      c .word-of .ensures,
+    )
 
 pub pack-spec : {M : Type 1} → statement M
 pack-spec =

@@ -1,14 +1,9 @@
+-- `Layout::previous_tag` meets its contract: a wrapping difference and a remainder. Assumes nothing.
 use lib.Pow.{pow-pos}
 use Rattle.word.proofs.Laws as laws
-use Prim.Native.Nat.{ℕ, zero, _+_, _*_, _%_, _/_, _^_, _<_}
-use mathlib.Core.Path.{_≡_, ap, _∙_, sym, subst}
 use borrow.Author.Needs.{needs}
 use Rattle.word.proofs.Layout.previous_tag.Statement.{statement}
 use Rattle.word.proofs.Layout.previous_tag.Tie as tie
-use Rattle.word.proofs.Layout.previous_tag.Reads as reads
-use Rattle.word.proofs.Layout.previous_tag.Lts as lts
-use Rattle.std.proofs.num.wrapping_sub_u64.Reads as wrapping-sub-u64-reads
-use Rattle.word.proofs.Layout.tag_limit.Reads as tag-limit-reads
 
 wrapping-sub-u64-requires : tie.Need-wrapping-sub-u64-requires
 wrapping-sub-u64-requires c κs = search needs

@@ -1,11 +1,8 @@
-use borrow.Author.Tests.{le-ltb, lt-ltb, le-leb, lt-leb}
+-- `Layout::unpack` meets its contract, case by case. Assumes nothing.
+use borrow.Author.Tests.{le-leb, lt-leb}
 use borrow.Author.Needs.{needs}
 use Rattle.word.proofs.Layout.unpack.Statement.{statement}
 use Rattle.word.proofs.Layout.unpack.Tie as tie
-use Rattle.word.proofs.Layout.unpack.Reads as reads
-use Rattle.word.proofs.Layout.unpack.Lts as lts
-use Rattle.word.proofs.Layout.tag_of.Reads as tag-of-reads
-use Rattle.word.proofs.Layout.value_of.Reads as value-of-reads
 
 returns : tie.Need-returns
 returns c = simp (lt-leb _ _ (c .if1 .taken))

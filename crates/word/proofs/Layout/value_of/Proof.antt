@@ -1,13 +1,9 @@
+-- `Layout::value_of` meets its contract. Assumes nothing.
 use Rattle.word.specs.Word.{valueOf}
 use lib.Pow.{pow-pos}
-use Prim.Native.Nat.{ℕ, zero, _+_, _*_, _%_, _/_, _^_, _<_}
-use mathlib.Core.Path.{_≡_, ap, _∙_, sym, subst}
 use borrow.Author.Needs.{needs}
 use Rattle.word.proofs.Layout.value_of.Statement.{statement}
 use Rattle.word.proofs.Layout.value_of.Tie as tie
-use Rattle.word.proofs.Layout.value_of.Reads as reads
-use Rattle.word.proofs.Layout.value_of.Lts as lts
-use Rattle.word.proofs.Layout.value_limit.Reads as value-limit-reads
 
 value-limit-requires : tie.Need-value-limit-requires
 value-limit-requires c κs = search needs

@@ -1,17 +1,15 @@
+-- `Layout::word_of` meets its contract: the sum fits a word because tag and value are in range. Assumes nothing.
 use Rattle.word.specs.Word.{word, tagLimit, valueLimit}
 use mir.Syntax.{w64}
 use mir.Val.{Fits}
 use mir.Facts.{fits-le}
 use native.Mathlib.Nat.{le-add-right}
 use Rattle.word.proofs.Laws as laws
-use Prim.Native.Nat.{ℕ, zero, _+_, _*_, _%_, _/_, _^_, _<_, _≤_}
-use mathlib.Core.Path.{_≡_, ap, _∙_, sym, subst}
+use Prim.Native.Nat.{ℕ, _+_, _*_, _^_, _<_, _≤_}
+use mathlib.Core.Path.{_≡_, sym, subst}
 use borrow.Author.Needs.{needs}
 use Rattle.word.proofs.Layout.word_of.Statement.{statement}
 use Rattle.word.proofs.Layout.word_of.Tie as tie
-use Rattle.word.proofs.Layout.word_of.Reads as reads
-use Rattle.word.proofs.Layout.word_of.Lts as lts
-use Rattle.word.proofs.Layout.value_limit.Reads as value-limit-reads
 
 fit : (b : ℕ) → b ≤ 48 → {t v n : ℕ} → t < tagLimit b → v < valueLimit b → n ≡ valueLimit b → Fits w64 (t * n + v)
 unfolding word
