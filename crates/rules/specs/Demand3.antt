@@ -126,6 +126,8 @@ own t = ownSteps (start t) (t .events) (t .me)
 pub record StepsBounded : Type 0 where
   pub never-more : (t : Turn) → own t .steps ≤ mostSteps (t .settings) (own t .call)
   pub answered-by-then : (t : Turn) → isIdle (place t) ≡ false → own t .steps < mostSteps (t .settings) (own t .call)
+  -- a process in a call can always take its next step
+  pub never-refused : (t : Turn) → isIdle (place t) ≡ false → taken (answer t) ≡ true
 
 pub record Demand3 : Type 0 where
   pub answers : AnswersRight Few

@@ -32,7 +32,8 @@ use Rattle.rules.specs.declared.Place.the-variants.{Idle, LoadReadsWord,
 use Rattle.rules.specs.declared.Process.{Process}
 use Rattle.rules.specs.declared.Settings.{Settings}
 use Rattle.rules.proofs.Held as form
-use Rattle.rules.proofs.Demand3.Accepted.{StepTaken, BeginTaken, in-form}
+use Rattle.rules.proofs.Accepted.{Accepted, Beginning}
+use Rattle.rules.proofs.Keeps.{process-fits}
 use Rattle.rules.proofs.Demand3.Change.{never, change-same, change-id, change-all, change-both}
 use Rattle.rules.proofs.Demand3.Inv.{Right, Counts}
 use Rattle.rules.proofs.Demand3.Keeping.{Held}
@@ -174,11 +175,11 @@ module _ (s : Settings) (z : Sized s) (st : State) (I : Inv (s .kind) (s .w) st)
     pub inv : Inv (s .kind) (s .w) next
     pub means : BoardMeans s next (a .board .processes) words (sees (variableOf call) begins (a .answer))
 
-  pub begin-follows : (call : Call) (values : List ℕ) → BeginTaken board me call words →
+  pub begin-follows : (call : Call) (values : List ℕ) → Accepted board me words → Beginning s q call values →
       BeginFollows call (runs.begun board me call values)
-  begin-follows call values t =
+  begin-follows call values a t =
       let x : ℕ = variableOf call in
-      let mine : ProcessMeans (s .kind) s (st .procs me) q = R .process me (t .board-taken .me-in) in
+      let mine : ProcessMeans (s .kind) s (st .procs me) q = R .process me (a .mine) in
       let resting : st .procs me .place ≡ idle = alike (s .kind) s (st .procs me) q mine .idle' (t .idle) in
       record {
         next = begun st me x (firstOf call (at-place values));
@@ -186,9 +187,9 @@ module _ (s : Settings) (z : Sized s) (st : State) (I : Inv (s .kind) (s .w) st)
         means = record {
           sixteen = length-set processes me (beginning s call values q) ∙ R .sixteen;
           memory = rw (change-id (st .rows) me) at
-              (put-kind (s .kind) s z (st .vars) (st .rows) words (R .memory) me x (t .board-taken .me-in) (t .variable-in) (anew me (st .vars x)) none words
+              (put-kind (s .kind) s z (st .vars) (st .rows) words (R .memory) me x (a .mine) (t .variable) (anew me (st .vars x)) none words
               (wrote-none (s .kind) s me x words) refl refl);
-          process = put-process x (beginning s call values q) (record { at = x; place = firstOf call (at-place values); sequences = st .procs me .sequences }) (t .board-taken .me-in)
+          process = put-process x (beginning s call values q) (record { at = x; place = firstOf call (at-place values); sequences = st .procs me .sequences }) (a .mine)
               (record { stands = first-stands (s .kind) (bits s) call values (q .gathered); held = mine .held });
           as-seen = change-both (λ y a c. a ≡ c .seen) seen (st .vars) x (see me begins (seen x)) (anew me (st .vars x)) (ap (see me begins) (R .as-seen x)) (λ y n. R .as-seen y);
         };
@@ -205,10 +206,10 @@ module _ (s : Settings) (z : Sized s) (st : State) (I : Inv (s .kind) (s .w) st)
     pub right : RightAnswer (width (s .kind) (s .w)) me (sees-step (a .0 .answer) (variableAt (q .place))) (a .0 .answer) (at-place (a .0 .values))
     pub counts : taken (a .0 .answer) ≡ true → Counts me (sees-step (a .0 .answer) (variableAt (q .place))) (noteAt (q .place) (newValues q) (a .0 .answer))
 
-  pub step-follows : StepTaken board me words → (taken (processStep s q me words .0 .answer) ≡ true → inSequence (q .place) ≡ true → length (seen (variableAt (q .place)) .since me) + 2 ≤ tagLimit (bits s)) →
+  pub step-follows : Accepted board me words → isIdle (q .place) ≡ false → (taken (processStep s q me words .0 .answer) ≡ true → inSequence (q .place) ≡ true → length (seen (variableAt (q .place)) .since me) + 2 ≤ tagLimit (bits s)) →
       StepFollows (stepped board me (processStep s q me words))
   unfolding processStep
-  step-follows t B = follows
+  step-follows t still B = follows
     where
       k : Kind
       k = s .kind
@@ -217,25 +218,25 @@ module _ (s : Settings) (z : Sized s) (st : State) (I : Inv (s .kind) (s .w) st)
       x = st .procs me .at
 
       mn : me < s .n
-      mn = t .board-taken .me-in
+      mn = t .mine
 
       fits : processFits s q ≡ true
-      fits = in-form board me words (t .board-taken)
+      fits = process-fits board words (t .good) me (t .mine)
 
       mine : ProcessMeans (s .kind) s (st .procs me) q
       mine = R .process me mn
 
       same-variable : variableAt (q .place) ≡ st .procs me .at
-      same-variable = alike (s .kind) s (st .procs me) q mine .variable (t .busy)
+      same-variable = alike (s .kind) s (st .procs me) q mine .variable still
 
       xt : st .procs me .at < s .t
-      xt = rw same-variable at (place-in s (q .opened) (q .place) (form.clauses s q fits .place) (t .busy))
+      xt = rw same-variable at (place-in s (q .opened) (q .place) (form.clauses s q fits .place) still)
 
       pair : PairK (s .kind) (s .w) me (st .vars (st .procs me .at)) (st .rows me) (st .procs me .sequences (st .procs me .at)) (st .procs me .place)
       pair = rw (eq-eqb (st .procs me .at) (st .procs me .at) refl) at (I .pair me (st .procs me .at))
 
       got : taken (stepFrom (q .place) s q me words .0 .answer) ≡ true
-      got = nearer s q me words (z .w-least) (q .opened) (q .place) (form.clauses s q fits .place) (t .busy) .1
+      got = nearer s q me words (z .w-least) (q .opened) (q .place) (form.clauses s q fits .place) still .answers
 
       short : past (st .procs me .place) ≡ true → length (st .vars (st .procs me .at) .seen .since me) + 2 ≤ tagLimit (bits s)
       short e = rw (← (R .as-seen (st .procs me .at)), ← same-variable) (B got (sym (alike (s .kind) s (st .procs me) q mine .sequence) ∙ e))
@@ -249,7 +250,7 @@ module _ (s : Settings) (z : Sized s) (st : State) (I : Inv (s .kind) (s .w) st)
       L : Linked (s .kind) s me (st .procs me .at) (q .place) q words (st .procs me .sequences) (stepFrom (q .place) s q me words)
           (rules (s .kind) (s .w) me (st .vars (st .procs me .at)) (st .rows) (st .procs me .sequences (st .procs me .at)) (st .procs me .place))
       L = link (s .kind) s z me (st .procs me .at) (st .vars) (st .rows) (st .procs me .sequences) q words mn xt (R .memory) (mine .held) fits
-          (I .var (st .procs me .at)) (st .procs me .place) (mine .stands) (t .busy) pair short
+          (I .var (st .procs me .at)) (st .procs me .place) (mine .stands) still pair short
 
       fine-step : FineK (s .kind) (s .w) me (st .vars (st .procs me .at)) (outAt (s .kind) (s .w) st me (st .procs me .at))
       fine-step = fine (s .kind) (s .w) (z .w-least) st I me (st .procs me .at) refl

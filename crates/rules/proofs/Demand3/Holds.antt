@@ -14,27 +14,29 @@ use Rattle.rules.specs.Demand3.{Turn, before, answer, answered, seen as 
 use Rattle.rules.specs.Entry.{beginRule, stepRule}
 use Rattle.rules.specs.Figure2.{change}
 use Rattle.rules.specs.Onlooker.{Seen, Note, quiet, begins, loads, checks, stores, see, taken, variableAt, placeOf, answerOf, variableIn, noteOf, watch, seenIn}
-use Rattle.rules.specs.Processes.{processAt}
+use Rattle.rules.specs.Processes.{isIdle, processAt}
+use Rattle.rules.specs.Refusals.{sizesCheck}
 use Rattle.rules.specs.Runs.{State, Event, begin, step, processOf, entry, after, fresh, run}
 use Rattle.rules.specs.Sizes.{bits, between, segmentsFit, settingsFit}
 use Rattle.rules.specs.declared.Answer.{Answer}
 use Rattle.rules.specs.declared.Answer.the-variants.{Value, Witness, Yes, No}
 use Rattle.rules.specs.declared.Answered.{Answered}
 use Rattle.rules.specs.declared.Call.{Call}
+use Rattle.rules.specs.declared.Check.the-variants.{Fine}
 use Rattle.rules.specs.declared.Kind.{Kind}
 use Rattle.rules.specs.declared.Kind.the-variants.{One, Many}
 use Rattle.rules.specs.declared.Process.{Process}
 use Rattle.rules.specs.declared.Settings.{Settings}
 use Rattle.rules.proofs.Sized.{sized}
 use Rattle.rules.proofs.Tests.{and-right}
-use Rattle.rules.proofs.Demand3.Accepted.{StepTaken}
+use Rattle.rules.proofs.Accepted.{Accepted, stands}
 use Rattle.rules.proofs.Demand3.Change.{never, change-all}
 use Rattle.rules.proofs.Demand3.Follow.{ProcessMeans, BoardMeans, alike, RightAnswer, BeginFollows, begin-follows, StepFollows, step-follows}
 use Rattle.rules.proofs.Demand3.Fresh.{fresh-means}
 use Rattle.rules.proofs.Demand3.Inv.{Counts}
 use Rattle.rules.proofs.Demand3.Kinds.{width, fewK}
 use Rattle.rules.proofs.Demand3.Link.{at-place}
-use Rattle.rules.proofs.Demand3.Runs.{begin-cases, step-cases, Shaped, Fresh, fresh-of, run-shaped}
+use Rattle.rules.proofs.Demand3.Runs.{begin-cases, step-cases, ready-fine, Shaped, fresh-is, run-shaped}
 use Rattle.rules.proofs.Demand3.Steps.{bounded}
 use Rattle.rules.proofs.Demand3.Whole.{State as Machine, Inv, freshState, fresh-inv}
 
@@ -73,7 +75,7 @@ module _ (s : Settings) (z : Sized s) where
         StepFollows s z (S .machine) (S .inv) processes words seen (S .means) me (stepRule (record { settings = s; processes = processes }) me words)
     step-by = step-cases (λ a. Short-by a → StepFollows s z (S .machine) (S .inv) processes words seen (S .means) me a)
         (record { settings = s; processes = processes }) me words
-        (λ t B. step-follows s z (S .machine) (S .inv) processes words seen (S .means) me t (λ g i. omega (arith, B g i, two)))
+        (λ a busy B. step-follows s z (S .machine) (S .inv) processes words seen (S .means) me a busy (λ g i. omega (arith, B g i, two)))
         (λ r B. record { next = S .machine; inv = S .inv; means = S .means; right = tt; counts = λ g. never (sym g) })
 
     step-of : ShortStep s (stateOf s processes words) seen me → Stepped s (stateOf s processes words) seen me
@@ -86,7 +88,7 @@ module _ (s : Settings) (z : Sized s) where
     begin-of =
         let F : BeginFollows s z (S .machine) (S .inv) processes words seen (S .means) me call (beginRule (record { settings = s; processes = processes }) me call values words) =
         begin-cases (BeginFollows s z (S .machine) (S .inv) processes words seen (S .means) me call) (record { settings = s; processes = processes }) me call values words
-        (λ t. begin-follows s z (S .machine) (S .inv) processes words seen (S .means) me call values t)
+        (λ a b. begin-follows s z (S .machine) (S .inv) processes words seen (S .means) me call values a b)
         (λ r. record { next = S .machine; inv = S .inv; means = S .means }) in
         record { machine = F .next; inv = F .inv; means = F .means }
 
@@ -105,10 +107,10 @@ module _ (s : Settings) (z : Sized s) where
       (λ S. begin-of (state .board .processes) (state .words) seen me call values S)
 
   -- a run
-  module _ (lent : List ℕ) (f : Fresh s lent) where
+  module _ (lent : List ℕ) (f : sizesCheck s (length lent) ≡ Fine) where
     along : (events : List Event) → AllShort (fresh s lent) (bits s) events → Stood s (run (fresh s lent) events) (seenIn (fresh s lent) events)
     unfolding run seenIn AllShort
-    along [] A = rw (f .is-fresh) (record { machine = freshState; inv = fresh-inv (s .kind) (s .w); means = fresh-means s z lent })
+    along [] A = rw (fresh-is s lent f) (record { machine = freshState; inv = fresh-inv (s .kind) (s .w); means = fresh-means s z lent })
     along (begin me call values ∷ events) A =
         begin-any (run (fresh s lent) events) (seenIn (fresh s lent) events) me call values (run-shaped s lent f events) (along events A)
     along (step me ∷ events) A =
@@ -133,15 +135,15 @@ right-in-window : (t : Turn) → InWindow t → RightAnswer (t .settings .w) (t 
 unfolding seenIn
 right-in-window t A =
     let s : Settings = t .settings in
-    let f : Fresh s (t .lent) = fresh-of s (t .lent) (t .ready) in
-    rw (width-is s (f .sizes .fits)) at (right-along s (sized s (f .sizes .fits)) (t .lent) f (t .events) (t .me) A .right)
+    let f : sizesCheck s (length (t .lent)) ≡ Fine = ready-fine s (t .lent) (t .ready) in
+    rw (width-is s (stands s (t .lent) f .settings)) at (right-along s (sized s (stands s (t .lent) f .settings)) (t .lent) f (t .events) (t .me) A .right)
 
 counts-in-window : (t : Turn) → InWindow t → taken (answer t) ≡ true → Counts (t .me) (seen-of t) (noteOf (step (t .me)) (before t))
 unfolding seenIn
 counts-in-window t A =
     let s : Settings = t .settings in
-    let f : Fresh s (t .lent) = fresh-of s (t .lent) (t .ready) in
-    right-along s (sized s (f .sizes .fits)) (t .lent) f (t .events) (t .me) A .counts
+    let f : sizesCheck s (length (t .lent)) ≡ Fine = ready-fine s (t .lent) (t .ready) in
+    right-along s (sized s (stands s (t .lent) f .settings)) (t .lent) f (t .events) (t .me) A .counts
 
 module _ (t : Turn) (A : InWindow t) where
   right-when : (a : Answer) → answer t ≡ a → RightAnswer (t .settings .w) (t .me) (seen-of t) a (answered t)
@@ -192,20 +194,20 @@ module _ (s : Settings) (z : Sized s) where
   few-there state seen me h S =
       step-cases (λ a. taken (a .0 .answer) ≡ true → inSequence (placeOf state me) ≡ true →
       length (seen (variableAt (placeOf state me)) .since me) ≤ seen (variableAt (placeOf state me)) .total)
-      (state .board) me (state .words) (λ t g i. there t i) (λ r g i. never (sym g))
+      (state .board) me (state .words) (λ a busy g i. there a busy i) (λ r g i. never (sym g))
     where
-      there : StepTaken (state .board) me (state .words) → inSequence (placeOf state me) ≡ true →
+      there : Accepted (state .board) me (state .words) → isIdle (placeOf state me) ≡ false → inSequence (placeOf state me) ≡ true →
           length (seen (variableAt (placeOf state me)) .since me) ≤ seen (variableAt (placeOf state me)) .total
-      there t i =
+      there t busy i =
           let st : Machine = S .machine in
           let x : ℕ = st .procs me .at in
-          let mine : ProcessMeans (s .kind) s (st .procs me) (processAt (state .board) me) = S .means .process me (rw (h .settings) at (t .board-taken .me-in)) in
+          let mine : ProcessMeans (s .kind) s (st .procs me) (processAt (state .board) me) = S .means .process me (rw (h .settings) at (t .mine)) in
           let like = alike (s .kind) s (st .procs me) (processAt (state .board) me) mine in
-          rw (like .variable (t .busy), S .means .as-seen (st .procs me .at))
+          rw (like .variable busy, S .means .as-seen (st .procs me .at))
           (fewK (s .kind) (s .w) me (st .vars (st .procs me .at)) (st .rows me) (st .procs me .sequences (st .procs me .at)) (st .procs me .place)
           (S .inv .var (st .procs me .at)) (rw (eq-eqb (st .procs me .at) (st .procs me .at) refl) at (S .inv .pair me (st .procs me .at))) (like .sequence ∙ i))
 
-  short-of-few : (lent : List ℕ) → Fresh s lent → (events : List Event) → ((x : ℕ) → seenIn (fresh s lent) events x .total ≤ 2 ^ bits s - 2) →
+  short-of-few : (lent : List ℕ) → sizesCheck s (length lent) ≡ Fine → (events : List Event) → ((x : ℕ) → seenIn (fresh s lent) events x .total ≤ 2 ^ bits s - 2) →
       AllShort (fresh s lent) (bits s) events
   unfolding seenIn AllShort
   short-of-few lent f [] F = tt
@@ -228,8 +230,8 @@ module _ (s : Settings) (z : Sized s) where
 pub window-of-few : (t : Turn) → Few t → InWindow t
 window-of-few t F =
     let s : Settings = t .settings in
-    let f : Fresh s (t .lent) = fresh-of s (t .lent) (t .ready) in
-    short-of-few s (sized s (f .sizes .fits)) (t .lent) f (step (t .me) ∷ t .events) F
+    let f : sizesCheck s (length (t .lent)) ≡ Fine = ready-fine s (t .lent) (t .ready) in
+    short-of-few s (sized s (stands s (t .lent) f .settings)) (t .lent) f (step (t .me) ∷ t .events) F
 
 -- what holds under a premise holds under a stronger one
 weaken : (P Q : Turn → Type 0) → ((t : Turn) → P t → Q t) → AnswersRight Q → AnswersRight P

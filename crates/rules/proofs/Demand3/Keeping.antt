@@ -2,14 +2,11 @@
 use mathlib.Core.Path.{_≡_, refl, ap, sym, _∙_}
 use mathlib.Core.Bool.{Bool, true, false, cond}
 use mathlib.Core.List.{List}
-use Prim.Native.Nat.{ℕ, _+_, _-_, _*_, _/_, _%_, _^_, _≤_, _<_}
-use native.Mathlib.Nat.{add-mul-div-right, one-mul, sub-add-cancel}
+use Prim.Native.Nat.{ℕ, _%_, _<_}
 use native.Mathlib.Omega.{arith}
-use lib.Dec.{eqb}
 use lib.ListN.{length, getD, set, length-set}
 use lib.Seq.{getD-set-same, getD-set-other}
-use lib.Pow.{pow-pos}
-use borrow.Author.Tests.{eqb-true, eq-eqb, ne-eqb}
+use borrow.Author.Tests.{eq-eqb, ne-eqb}
 use Rattle.word.specs.Word.{tagLimit}
 use Rattle.rules.specs.Figure2.{change}
 use Rattle.rules.specs.Processes.{isOpen, withOpen, withClosed}
@@ -17,46 +14,11 @@ use Rattle.rules.specs.Sizes.{bits}
 use Rattle.rules.specs.declared.Kind.{Kind}
 use Rattle.rules.specs.declared.Kind.the-variants.{One, Many}
 use Rattle.rules.specs.declared.Settings.{Settings}
-use Rattle.rules.proofs.Masks.{opens, open-le}
+use Rattle.rules.proofs.Closing.{closes}
+use Rattle.rules.proofs.Masks.{opens}
 use Rattle.rules.proofs.Demand3.Change.{change-id, change-all}
 use Rattle.rules.proofs.Demand3.Machine.{stamp, Sequence, shut}
 use Rattle.rules.proofs.Demand3.Tags.{Means}
-
--- what closing does, at every variable
-pub closes : (n x y : ℕ) → isOpen (withClosed n x) y ≡ cond (eqb y x) false (isOpen n y)
-unfolding withClosed withOpen
-closes n x y = by (isOpen n x) refl
-  where
-    -- an open bit taken off
-    off : isOpen n x ≡ true → (n - 2 ^ x) / 2 ^ x % 2 ≡ 0
-    off e =
-        let l : 2 ^ x ≤ n = open-le n x e in
-        let one : n / 2 ^ x % 2 ≡ 1 = eqb-true (n / 2 ^ x % 2) 1 e in
-        let back : (n - 2 ^ x) + 1 * 2 ^ x ≡ n = omega (arith, one-mul (2 ^ x)) in
-        let up : n / 2 ^ x ≡ (n - 2 ^ x) / 2 ^ x + 1 = ap (λ (k : ℕ). k / 2 ^ x) (sym back) ∙ add-mul-div-right (n - 2 ^ x) 1 (pow-pos x) in
-        omega arith
-
-    shut-bit : isOpen n x ≡ true → isOpen (n - 2 ^ x) x ≡ false
-    shut-bit e = ne-eqb ((n - 2 ^ x) / 2 ^ x % 2) 1 (λ q. omega (arith, off e, q))
-
-    -- to open it again gives n
-    again : isOpen n x ≡ true → withOpen (n - 2 ^ x) x ≡ n
-    again e = rw (shut-bit e) (sub-add-cancel {n = n} (open-le n x e))
-
-    elsewhere : isOpen n x ≡ true → isOpen n y ≡ cond (eqb y x) true (isOpen (n - 2 ^ x) y)
-    elsewhere e = ap (λ (k : ℕ). isOpen k y) (sym (again e)) ∙ opens (n - 2 ^ x) x y
-
-    open-case : isOpen n x ≡ true → (t : Bool) → eqb y x ≡ t → isOpen (n - 2 ^ x) y ≡ cond t false (isOpen n y)
-    open-case e true q = rw (eqb-true y x q) (shut-bit e)
-    open-case e false q = sym (elsewhere e ∙ ap (λ (t : Bool). cond t true (isOpen (n - 2 ^ x) y)) q)
-
-    shut-case : isOpen n x ≡ false → (t : Bool) → eqb y x ≡ t → isOpen n y ≡ cond t false (isOpen n y)
-    shut-case e true q = rw (eqb-true y x q) e
-    shut-case e false q = refl
-
-    by : (t : Bool) → isOpen n x ≡ t → isOpen (cond t (n - 2 ^ x) n) y ≡ cond (eqb y x) false (isOpen n y)
-    by true e = open-case e (eqb y x) refl
-    by false e = shut-case e (eqb y x) refl
 
 -- a keep-word: the whole word of kind `one`, the tag of kind `many`
 abbrev pub Keeps : Kind → Settings → ℕ → Sequence → Type 0

@@ -1,28 +1,29 @@
 -- Kind `many`: a step of the board is the machine's. Assumes nothing.
-use mathlib.Core.Path.{_≡_, refl, ap, _∙_, subst}
-use mathlib.Core.Bool.{Bool, true, false, cond}
+use mathlib.Core.Path.{_≡_, refl, ap, sym, _∙_, subst}
+use mathlib.Core.Bool.{Bool, true, false}
 use mathlib.Core.List.{List}
 use Prim.Native.Nat.{ℕ, zero, suc, _+_, _≤_, _<_}
 use native.Mathlib.Omega.{arith}
 use lib.Dec.{eqb, ltb}
 use lib.ListN.{length, getD, set, length-set}
 use lib.Seq.{getD-set-same, getD-set-other}
-use Rattle.word.specs.Word.{word, tagOf, valueOf, nextTag, tagLimit, valueLimit}
+use Rattle.word.specs.Word.{word, tagOf, valueOf, nextTag, previousTag, tagLimit, valueLimit}
 use Rattle.rules.specs.Bounds.{Sized}
 use Rattle.rules.specs.Figure2.{change}
+use Rattle.rules.specs.Figure4.{Step}
 use Rattle.rules.specs.Figure6.{newHeader, saving, copyOn, copyCutShort}
 use Rattle.rules.specs.GoodForm.{placeFits}
-use Rattle.rules.specs.Processes.{isIdle, keptOf, closing, noValues, goesOn, ends}
-use Rattle.rules.specs.Sizes.{bits, headerAt, segmentAt, announceAt, headerOf, segmentOf, announcedOf}
+use Rattle.rules.specs.Processes.{isIdle, keptOf, closing, noValues}
+use Rattle.rules.specs.Sizes.{bits, headerOf, segmentOf, announcedOf}
 use Rattle.rules.specs.Steps.{stepFrom}
-use Rattle.rules.specs.declared.Answer.the-variants.{No}
 use Rattle.rules.specs.declared.Copy.{Copy}
 use Rattle.rules.specs.declared.Kind.the-variants.{Many}
 use Rattle.rules.specs.declared.Place.{Place}
-use Rattle.rules.specs.declared.Place.the-variants.{StoreReadsHeader, StoreAnnounces, StoreSwapsHeader, ReadsSegment, ReadsAnnounced, SwapsSegment, ReadsSegmentAgain, ReadsHeader}
+use Rattle.rules.specs.declared.Place.the-variants.{StoreReadsHeader, StoreAnnounces, StoreSwapsHeader, ReadsSegment, SwapsSegment, ReadsHeader}
 use Rattle.rules.specs.declared.Process.{Process}
 use Rattle.rules.specs.declared.Settings.{Settings}
 use Rattle.rules.proofs.Addresses.{number-fits}
+use Rattle.rules.proofs.Branches.{branch}
 use Rattle.rules.proofs.Held as form
 use Rattle.rules.proofs.Demand3.Change.{never, change-all}
 use Rattle.rules.proofs.Demand3.Inv.{VarInv, Opened, Pair}
@@ -65,84 +66,45 @@ module _ (s : Settings) (z : Sized s) (p x : ℕ) (v : Var) (rows : ℕ → ℕ 
       eqb (tagOf (bits s) (headerOf s x words)) (keptOf x q) ≡ eqb (v .header .version) (sequences x .kept)
   tag-agrees pl O B = rw (MH .tag, H .kept x xt) (tag-test (tagLimit (bits s)) (sequences x .kept) (v .header .version) (O .old) (omega (arith, O .count)))
 
-  link-read : (t : Bool) →
-      Linked Many s p x (StoreReadsHeader x) q words sequences
-      (cond t (goesOn (StoreAnnounces x (headerOf s x words) 0) q, words) (ends No (closing x q), words))
-      (onRead (s .w) p v rows (sequences x) t (at-place (q .values)))
-  link-read true = record { stands = at-announce MH; held = same-held; wrote = refl; says = says-busy; note = refl }
-  link-read false = record { stands = at-idle; held = shut-held; wrote = refl; says = says-no; note = refl }
+  -- the row is written, and the next place or the header's turn comes
+  link-announce : (header i : ℕ) (h : Versioned) → Means (bits s) header h → i < s .w → (more : Bool) → ltb (i + 1) (s .w) ≡ more →
+      Linked Many s p x (StoreAnnounces x header i) q words sequences (stepFrom (StoreAnnounces x header i) s q p words)
+      (onAnnounced (s .w) p v rows (sequences x) more (at-place (q .values)) h i)
+  link-announce header i h M l true e = rw e (record { stands = at-announce M; held = same-held; wrote = (refl, l); says = says-busy; note = refl })
+  link-announce header i h M l false e = rw e (record { stands = at-swap M; held = same-held; wrote = (refl, l); says = says-busy; note = refl })
 
-  link-announce : (header i : ℕ) (h : Versioned) → Means (bits s) header h → i < s .w → (t : Bool) →
-      Linked Many s p x (StoreAnnounces x header i) q words sequences
-      (goesOn (cond t (StoreAnnounces x header (i + 1)) (StoreSwapsHeader x header)) q, set words (announceAt s p i) (getD (q .values) i 0))
-      (onAnnounced (s .w) p v rows (sequences x) t (at-place (q .values)) h i)
-  link-announce header i h M l true = record { stands = at-announce M; held = same-held; wrote = (refl, l); says = says-busy; note = refl }
-  link-announce header i h M l false = record { stands = at-swap M; held = same-held; wrote = (refl, l); says = says-busy; note = refl }
-
-  link-swap : (header : ℕ) (h : Versioned) → Means (bits s) header h → (t : Bool) →
-      Linked Many s p x (StoreSwapsHeader x header) q words sequences
-      (cond t (
-        goesOn (ReadsSegment (record { variable = x; header = newHeader s p header; segment = 0; gathers = false })) q,
-        set words (headerAt s x) (newHeader s p header),
-      ) (ends No (closing x q), words))
-      (onSwap (s .w) p v rows (sequences x) t (at-place (q .values)) h)
-  link-swap header h M true =
-      let new : Means (bits s) (newHeader s p header) (stamp (suc (h .version)) p) =
+  -- the new header has the next tag
+  new-header : (header : ℕ) (h : Versioned) → Means (bits s) header h → Means (bits s) (newHeader s p header) (stamp (suc (h .version)) p)
+  new-header header h M =
       means-word (bits s) (nextTag (bits s) (tagOf (bits s) header)) p (suc (h .version)) (number-fits s z pn)
-      (ap (nextTag (bits s)) (M .tag) ∙ next-tag (bits s) (h .version)) in
-      record { stands = at-segment {a = store} new tt; held = same-held; wrote = (newHeader s p header, new, refl); says = says-busy; note = refl }
-  link-swap header h M false = record { stands = at-idle; held = shut-held; wrote = refl; says = says-no; note = refl }
+      (ap (nextTag (bits s)) (M .tag) ∙ next-tag (bits s) (h .version))
 
-  -- Copy, at segment i
-  module _ (header i : ℕ) (h : Versioned) (a : Aim) (M : Means (bits s) header h) (G : Gathered (q .gathered) a) (l : i < s .w) where
-    abbrev here : Copy
-    here = copyAt x header i a
+  -- the value of the segment read
+  value-read : (header i : ℕ) (h : Versioned) (a : Aim) → Means (bits s) header h → Gathered (q .gathered) a → i < s .w →
+      Stands (bits s) x (q .values) (q .gathered) (ReadsHeader (copyAt x header i a) (valueOf (bits s) (segmentOf s x i words)))
+      (copies a h i (readsHeader (v .segment i .value)))
+  value-read header i h a M G l =
+      subst (λ (u : ℕ). Stands (bits s) x (q .values) (q .gathered) (ReadsHeader (copyAt x header i a) (valueOf (bits s) (segmentOf s x i words)))
+      (copies a h i (readsHeader u))) (MS i l .value) (at-header M G)
 
-    value-read : Stands (bits s) x (q .values) (q .gathered) (ReadsHeader (copyAt x header i a) (valueOf (bits s) (segmentOf s x i words)))
-        (copies a h i (readsHeader (v .segment i .value)))
-    value-read = subst (λ (u : ℕ). Stands (bits s) x (q .values) (q .gathered) (ReadsHeader (copyAt x header i a) (valueOf (bits s) (segmentOf s x i words)))
-        (copies a h i (readsHeader u))) (MS i l .value) (at-header M G)
-
-    link-segment : (t : Bool) →
-        Linked Many s p x (ReadsSegment (copyAt x header i a)) q words sequences
-        (cond t (goesOn (ReadsAnnounced (copyAt x header i a) (segmentOf s x i words)) q, words)
-        (goesOn (ReadsHeader (copyAt x header i a) (valueOf (bits s) (segmentOf s x i words))) q, words))
-        (onSegment (s .w) p v rows (sequences x) t a h i)
-    link-segment true = record { stands = at-announced M G (MS i l); held = same-held; wrote = refl; says = says-busy; note = refl }
-    link-segment false = record { stands = value-read; held = same-held; wrote = refl; says = says-busy; note = refl }
-
-    link-segment-swap : (w u : ℕ) → u < valueLimit (bits s) → (t : Bool) →
-        Linked Many s p x (SwapsSegment (copyAt x header i a) w u) q words sequences
-        (cond t (
-          goesOn (ReadsHeader (copyAt x header i a) u) q,
-          set words (segmentAt s x i) (word (bits s) (tagOf (bits s) header) u),
-        ) (goesOn (ReadsSegmentAgain (copyAt x header i a)) q, words))
-        (onSegmentSwap (s .w) p v rows (sequences x) t a h i u)
-    link-segment-swap w u small true = record {
-      stands = at-header M G;
-      held = same-held;
-      wrote = (word (bits s) (tagOf (bits s) header) u, means-word (bits s) (tagOf (bits s) header) u (h .version) small (M .tag), refl, l);
-      says = says-busy;
-      note = refl;
-    }
-    link-segment-swap w u small false = record { stands = at-again M G; held = same-held; wrote = refl; says = says-busy; note = refl }
-
-  -- Copy's end of a segment: the same header?, a segment more?
-  link-header : (header i : ℕ) (h : Versioned) (a : Aim) → Means (bits s) header h → Gathered (q .gathered) a → i < s .w → (u : ℕ) (t more : Bool) →
+  -- Copy's end of a segment, with the same header: a segment more?
+  link-on : (header i : ℕ) (h : Versioned) (a : Aim) → Means (bits s) header h → Gathered (q .gathered) a → i < s .w → (u : ℕ) (more : Bool) →
       ltb (i + 1) (s .w) ≡ more →
-      Linked Many s p x (ReadsHeader (copyAt x header i a) u) q words sequences
-      (cond t (copyOn s (copyAt x header i a) (saving (copyAt x header i a) u q), words) (copyCutShort s (copyAt x header i a) (headerOf s x words) q, words))
-      (onHeader (s .w) p v rows (sequences x) t more a h i u)
-  link-header header i h (load g) M G l u true true e =
+      Linked Many s p x (ReadsHeader (copyAt x header i a) u) q words sequences (copyOn s (copyAt x header i a) (saving (copyAt x header i a) u q), words)
+      (onHeader (s .w) p v rows (sequences x) true more a h i u)
+  link-on header i h (load g) M G l u true e =
       rw e (record { stands = at-segment {a = load (change g i u)} M (gathered-more (q .gathered) g i u (omega (arith, z .w-most)) G); held = same-held; wrote = refl; says = says-busy; note = refl })
-  link-header header i h store M G l u true true e =
-      rw e (record { stands = at-segment {a = store} M tt; held = same-held; wrote = refl; says = says-busy; note = refl })
-  link-header header i h (load g) M G l u true false e =
+  link-on header i h store M G l u true e = rw e (record { stands = at-segment {a = store} M tt; held = same-held; wrote = refl; says = says-busy; note = refl })
+  link-on header i h (load g) M G l u false e =
       rw e (record { stands = at-idle; held = same-held; wrote = refl; says = says-values (λ j k. gathered-more (q .gathered) g i u (omega (arith, z .w-most)) G .1 j); note = refl })
-  link-header header i h store M G l u true false e =
-      rw e (record { stands = at-idle; held = shut-held; wrote = refl; says = says-yes; note = refl })
-  link-header header i h (load g) M G l u false more e = record { stands = at-idle; held = same-held; wrote = refl; says = says-witness (MH .value); note = refl }
-  link-header header i h store M G l u false more e = record { stands = at-idle; held = shut-held; wrote = refl; says = says-yes; note = refl }
+  link-on header i h store M G l u false e = rw e (record { stands = at-idle; held = shut-held; wrote = refl; says = says-yes; note = refl })
+
+  -- with another header
+  link-cut-short : (header i : ℕ) (h : Versioned) (a : Aim) → Gathered (q .gathered) a → (u : ℕ) (more : Bool) →
+      Linked Many s p x (ReadsHeader (copyAt x header i a) u) q words sequences (copyCutShort s (copyAt x header i a) (headerOf s x words) q, words)
+      (onHeader (s .w) p v rows (sequences x) false more a h i u)
+  link-cut-short header i h (load g) G u more = record { stands = at-idle; held = same-held; wrote = refl; says = says-witness (MH .value); note = refl }
+  link-cut-short header i h store G u more = record { stands = at-idle; held = shut-held; wrote = refl; says = says-yes; note = refl }
 
   module _ (I : VarInv (s .w) v) where
     -- in Copy no more than 2^b versions are about
@@ -169,20 +131,43 @@ module _ (s : Settings) (z : Sized s) (p x : ℕ) (v : Var) (rows : ℕ → ℕ 
       stands = at-idle;
       held = same-held;
       wrote = refl;
-      says = rw (tag-agrees validateReads (P .seq (P .doing)) (B refl)) (says-sure (s .w) _ (eqb (v .header .version) (sequences x .kept)));
+      says = rw (← (tag-agrees validateReads (P .seq (P .doing)) (B refl))) (says-sure (s .w) noValues (eqb (tagOf (bits s) (headerOf s x words)) (keptOf x q)));
       note = refl;
     }
     link-many place stand at-store i f P B =
-        rw (tag-agrees (storeReads (at-place (q .values))) (P .seq (P .doing)) (B refl)) (link-read (eqb (v .header .version) (sequences x .kept)))
-    link-many place stand (at-announce {header = header} {i = i} {h = h} M) n f P B = link-announce header i h M (P .doing .0) (ltb (i + 1) (s .w))
+        let T : eqb (tagOf (bits s) (headerOf s x words)) (keptOf x q) ≡ eqb (v .header .version) (sequences x .kept) =
+        tag-agrees (storeReads (at-place (q .values))) (P .seq (P .doing)) (B refl) in
+        branch (λ (r : Step). Linked Many s p x (StoreReadsHeader x) q words sequences r
+        (onRead (s .w) p v rows (sequences x) (eqb (v .header .version) (sequences x .kept)) (at-place (q .values))))
+        (eqb (tagOf (bits s) (headerOf s x words)) (keptOf x q)) _ _
+        (λ e. rw (sym T ∙ e) (record { stands = at-announce MH; held = same-held; wrote = refl; says = says-busy; note = refl }))
+        (λ e. rw (sym T ∙ e) (record { stands = at-idle; held = shut-held; wrote = refl; says = says-no; note = refl }))
+    link-many place stand (at-announce {header = header} {i = i} {h = h} M) n f P B = link-announce header i h M (P .doing .0) (ltb (i + 1) (s .w)) refl
     link-many place stand (at-swap {header = header} {h = h} M) n f P B =
         let O : Opened (s .w) p v (sequences x) (swapsHeader (at-place (q .values)) h) = P .seq (P .doing .open') in
-        rw (word-test (bits s) MH M (omega (arith, O .old, P .doing .from)) (omega (arith, O .count, P .doing .from, B refl))) (link-swap header h M (same (v .header) h))
+        let T : eqb (headerOf s x words) header ≡ same (v .header) h =
+        word-test (bits s) MH M (omega (arith, O .old, P .doing .from)) (omega (arith, O .count, P .doing .from, B refl)) in
+        branch (λ (r : Step). Linked Many s p x (StoreSwapsHeader x header) q words sequences r
+        (onSwap (s .w) p v rows (sequences x) (same (v .header) h) (at-place (q .values)) h))
+        (eqb (headerOf s x words) header) _ _
+        (λ e. rw (sym T ∙ e) (record {
+          stands = at-segment {a = store} (new-header header h M) tt;
+          held = same-held;
+          wrote = (newHeader s p header, new-header header h M, refl);
+          says = says-busy;
+          note = refl;
+        }))
+        (λ e. rw (sym T ∙ e) (record { stands = at-idle; held = shut-held; wrote = refl; says = says-no; note = refl }))
     link-many place stand (at-segment {header = header} {i = i} {h = h} {a = a} M G) n f P B =
         let l : i < s .w = P .doing .0 .in' in
         let w : v .header .version + 2 ≤ h .version + tagLimit (bits s) = window a h i readsSegment P (B refl) in
-        rw (MS i l .tag, M .tag, previous-test (bits s) (h .version) (v .segment i .version) (omega (arith, I .lo i l, P .doing .0 .old)) (omega (arith, I .hi i l)))
-        (link-segment header i h a M G l (eqb (suc (v .segment i .version)) (h .version)))
+        let T : eqb (tagOf (bits s) (segmentOf s x i words)) (previousTag (bits s) (tagOf (bits s) header)) ≡ eqb (suc (v .segment i .version)) (h .version) =
+        rw (MS i l .tag, M .tag) (previous-test (bits s) (h .version) (v .segment i .version) (omega (arith, I .lo i l, P .doing .0 .old)) (omega (arith, I .hi i l))) in
+        branch (λ (r : Step). Linked Many s p x (ReadsSegment (copyAt x header i a)) q words sequences r
+        (onSegment (s .w) p v rows (sequences x) (eqb (suc (v .segment i .version)) (h .version)) a h i))
+        (eqb (tagOf (bits s) (segmentOf s x i words)) (previousTag (bits s) (tagOf (bits s) header))) _ _
+        (λ e. rw (sym T ∙ e) (record { stands = at-announced M G (MS i l); held = same-held; wrote = refl; says = says-busy; note = refl }))
+        (λ e. rw (sym T ∙ e) (record { stands = value-read header i h a M G l; held = same-held; wrote = refl; says = says-busy; note = refl }))
     link-many place stand (at-announced {header = header} {i = i} {w = w} {h = h} {y = y} {a = a} M G My) n f P B =
         let l : i < s .w = P .doing .0 .in' in
         let names : valueOf (bits s) header < s .n = form.held-names s (q .opened) x header (form.segment s (q .opened) x header i f) in
@@ -199,11 +184,27 @@ module _ (s : Settings) (z : Sized s) (p x : ℕ) (v : Var) (rows : ℕ → ℕ 
     link-many place stand (at-segment-swap {header = header} {i = i} {w = w} {u = u} {h = h} {y = y} {a = a} M G My) n f P B =
         let l : i < s .w = P .doing .0 .in' in
         let r : v .header .version + 2 ≤ h .version + tagLimit (bits s) = window a h i (swapsSegment y u) P (B refl) in
-        rw (word-test (bits s) (MS i l) My (omega (arith, I .lo i l, P .doing .0 .old, P .doing .1 .0 .prev)) (omega (arith, I .hi i l, P .doing .1 .0 .prev)))
-        (link-segment-swap header i h a M G l w u (form.held-value s (q .opened) u (copyAt x header i a) f) (same (v .segment i) y))
+        let small : u < valueLimit (bits s) = form.held-value s (q .opened) u (copyAt x header i a) f in
+        let T : eqb (segmentOf s x i words) w ≡ same (v .segment i) y =
+        word-test (bits s) (MS i l) My (omega (arith, I .lo i l, P .doing .0 .old, P .doing .1 .0 .prev)) (omega (arith, I .hi i l, P .doing .1 .0 .prev)) in
+        branch (λ (r : Step). Linked Many s p x (SwapsSegment (copyAt x header i a) w u) q words sequences r
+        (onSegmentSwap (s .w) p v rows (sequences x) (same (v .segment i) y) a h i u))
+        (eqb (segmentOf s x i words) w) _ _
+        (λ e. rw (sym T ∙ e) (record {
+          stands = at-header M G;
+          held = same-held;
+          wrote = (word (bits s) (tagOf (bits s) header) u, means-word (bits s) (tagOf (bits s) header) u (h .version) small (M .tag), refl, l);
+          says = says-busy;
+          note = refl;
+        }))
+        (λ e. rw (sym T ∙ e) (record { stands = at-again M G; held = same-held; wrote = refl; says = says-busy; note = refl }))
     link-many place stand (at-again {header = header} {i = i} {h = h} {a = a} M G) n f P B =
-        let l : i < s .w = P .doing .0 .in' in
-        record { stands = value-read header i h a M G l; held = same-held; wrote = refl; says = says-busy; note = refl }
+        record { stands = value-read header i h a M G (P .doing .0 .in'); held = same-held; wrote = refl; says = says-busy; note = refl }
     link-many place stand (at-header {header = header} {i = i} {u = u} {h = h} {a = a} M G) n f P B =
         let w : v .header .version + 2 ≤ h .version + tagLimit (bits s) = window a h i (readsHeader u) P (B refl) in
-        rw (word-test (bits s) MH M (P .doing .0 .old) (omega arith)) (link-header header i h a M G (P .doing .0 .in') u (same (v .header) h) (ltb (i + 1) (s .w)) refl)
+        let T : eqb (headerOf s x words) header ≡ same (v .header) h = word-test (bits s) MH M (P .doing .0 .old) (omega arith) in
+        branch (λ (r : Step). Linked Many s p x (ReadsHeader (copyAt x header i a) u) q words sequences r
+        (onHeader (s .w) p v rows (sequences x) (same (v .header) h) (ltb (i + 1) (s .w)) a h i u))
+        (eqb (headerOf s x words) header) _ _
+        (λ e. rw (sym T ∙ e) (link-on header i h a M G (P .doing .0 .in') u (ltb (i + 1) (s .w)) refl))
+        (λ e. rw (sym T ∙ e) (link-cut-short header i h a G u (ltb (i + 1) (s .w))))

@@ -1,23 +1,23 @@
 -- Kind `one`: a step of the board is the machine's. Assumes nothing.
 use mathlib.Core.Path.{_≡_, refl, ap, sym, _∙_}
-use mathlib.Core.Bool.{Bool, true, false, cond}
+use mathlib.Core.Bool.{true, false}
 use mathlib.Core.List.{List, [], _∷_}
 use Prim.Native.Nat.{ℕ, suc, _+_, _%_, _≤_, _<_}
 use native.Mathlib.Omega.{arith}
 use lib.Dec.{eqb}
-use lib.ListN.{length, getD, set}
+use lib.ListN.{length, getD}
 use Rattle.word.specs.Word.{tagOf, valueOf, nextTag, tagLimit, valueLimit}
 use Rattle.rules.specs.Bounds.{Sized}
-use Rattle.rules.specs.Figure4.{newWord}
-use Rattle.rules.specs.Processes.{isIdle, keptOf, closing, ends}
-use Rattle.rules.specs.Sizes.{bits, wordAt, wordOf}
+use Rattle.rules.specs.Figure4.{Step, newWord}
+use Rattle.rules.specs.Processes.{isIdle, keptOf, noValues}
+use Rattle.rules.specs.Sizes.{bits, wordOf}
 use Rattle.rules.specs.Steps.{stepFrom}
-use Rattle.rules.specs.declared.Answer.the-variants.{Yes, No}
 use Rattle.rules.specs.declared.Kind.the-variants.{One}
 use Rattle.rules.specs.declared.Place.{Place}
 use Rattle.rules.specs.declared.Place.the-variants.{StoreSwapsWord}
 use Rattle.rules.specs.declared.Process.{Process}
 use Rattle.rules.specs.declared.Settings.{Settings}
+use Rattle.rules.proofs.Branches.{branch}
 use Rattle.rules.proofs.Demand3.Change.{never, each}
 use Rattle.rules.proofs.Demand3.Keeping.{Held, held-same, held-shut, held-opened}
 use Rattle.rules.proofs.Demand3.KindOne.{Opened₁, Pair₁}
@@ -41,29 +41,14 @@ module _ (s : Settings) (z : Sized s) (p x : ℕ) (v : Var) (rows : ℕ → ℕ 
       eqb (wordOf x words) (keptOf x q) ≡ same (v .header) (stamp (sequences x .kept) (sequences x .kept-value))
   test O B = word-test (bits s) M (H .kept x xt) (O .old) (omega (arith, O .count))
 
-  swapped : (t : Bool) → same (v .header) (stamp (sequences x .kept) (sequences x .kept-value)) ≡ t →
-      Linked One s p x (StoreSwapsWord x) q words sequences
-      (cond t (ends Yes (closing x q), set words (wordAt x) (newWord s q x)) (ends No (closing x q), words))
-      (onWordSwap 1 p v rows (sequences x) t (at-place (q .values)))
-  swapped true e =
+  -- the new word has the next tag
+  new-word : same (v .header) (stamp (sequences x .kept) (sequences x .kept-value)) ≡ true →
+      Means (bits s) (newWord s q x) (stamp (suc (v .header .version)) (getD (q .values) 0 0))
+  new-word e =
       let b : ℕ = bits s in
       let k = same-true (v .header) (stamp (sequences x .kept) (sequences x .kept-value)) e in
-      let tag : nextTag b (tagOf b (keptOf x q)) ≡ suc (v .header .version) % tagLimit b =
-      ap (nextTag b) (H .kept x xt .tag) ∙ next-tag b (sequences x .kept) ∙ ap (λ (n : ℕ). suc n % tagLimit b) (sym (k .0)) in
-      record {
-        stands = one-idle;
-        held = held-shut One s sequences (q .keep) (q .opened) H x;
-        wrote = (newWord s q x, means-word b (nextTag b (tagOf b (keptOf x q))) (getD (q .values) 0 0) (suc (v .header .version)) small tag, refl);
-        says = says-yes;
-        note = refl;
-      }
-  swapped false e = record {
-    stands = one-idle;
-    held = held-shut One s sequences (q .keep) (q .opened) H x;
-    wrote = refl;
-    says = says-no;
-    note = refl;
-  }
+      means-word b (nextTag b (tagOf b (keptOf x q))) (getD (q .values) 0 0) (suc (v .header .version)) small
+      (ap (nextTag b) (H .kept x xt .tag) ∙ next-tag b (sequences x .kept) ∙ ap (λ (n : ℕ). suc n % tagLimit b) (sym (k .0)))
 
   pub link-one : (place : Place) (stand : Stand) → StandsOne x (q .values) place stand → isIdle place ≡ false →
       Pair₁ p v (rows p) (sequences x) stand → (past stand ≡ true → length (v .seen .since p) + 2 ≤ tagLimit (bits s)) →
@@ -83,8 +68,25 @@ module _ (s : Settings) (z : Sized s) (p x : ℕ) (v : Var) (rows : ℕ → ℕ 
     stands = one-idle;
     held = held-same One s sequences (q .keep) (q .opened) H x;
     wrote = refl;
-    says = rw (test (P .seq (P .doing)) (B refl)) (says-sure 1 _ (same (v .header) (stamp (sequences x .kept) (sequences x .kept-value))));
+    says = rw (← (test (P .seq (P .doing)) (B refl))) (says-sure 1 noValues (eqb (wordOf x words) (keptOf x q)));
     note = refl;
   }
   link-one place stand one-store i P B =
-      rw (test (P .seq (P .doing)) (B refl)) (swapped (same (v .header) (stamp (sequences x .kept) (sequences x .kept-value))) refl)
+      let T : eqb (wordOf x words) (keptOf x q) ≡ same (v .header) (stamp (sequences x .kept) (sequences x .kept-value)) = test (P .seq (P .doing)) (B refl) in
+      branch (λ (r : Step). Linked One s p x (StoreSwapsWord x) q words sequences r
+      (onWordSwap 1 p v rows (sequences x) (same (v .header) (stamp (sequences x .kept) (sequences x .kept-value))) (at-place (q .values))))
+      (eqb (wordOf x words) (keptOf x q)) _ _
+      (λ e. rw (sym T ∙ e) (record {
+        stands = one-idle;
+        held = held-shut One s sequences (q .keep) (q .opened) H x;
+        wrote = (newWord s q x, new-word (sym T ∙ e), refl);
+        says = says-yes;
+        note = refl;
+      }))
+      (λ e. rw (sym T ∙ e) (record {
+        stands = one-idle;
+        held = held-shut One s sequences (q .keep) (q .opened) H x;
+        wrote = refl;
+        says = says-no;
+        note = refl;
+      }))

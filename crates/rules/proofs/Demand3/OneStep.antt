@@ -81,60 +81,60 @@ recopy W p v row s a h i ph ph′ P A = record {
 
 -- names for what the rules' branches leave
 module _ (W p : ℕ) (v : Var) (rows : ℕ → ℕ → ℕ) (s : Sequence) where
-  abbrev go : Place → Out
-  go pl = leaves p v (rows p) (goes W p v rows s pl)
+  abbrev goesOut : Place → Out
+  goesOut pl = leaves p v (rows p) (goes W p v rows s pl)
 
-  abbrev refuse : (ℕ → ℕ) → Out
-  refuse new = leaves p v (rows p) (refuses W p v rows s new)
+  abbrev refusesOut : (ℕ → ℕ) → Out
+  refusesOut new = leaves p v (rows p) (refuses W p v rows s new)
 
-  abbrev scAt : Bool → (ℕ → ℕ) → Out
-  scAt t new = leaves p v (rows p) (onRead W p v rows s t new)
+  abbrev readOut : Bool → (ℕ → ℕ) → Out
+  readOut t new = leaves p v (rows p) (onRead W p v rows s t new)
 
-  abbrev annAt : Bool → (ℕ → ℕ) → Versioned → ℕ → Out
-  annAt t new h i = leaves p v (rows p) (onAnnounced W p v rows s t new h i)
+  abbrev announcedOut : Bool → (ℕ → ℕ) → Versioned → ℕ → Out
+  announcedOut t new h i = leaves p v (rows p) (onAnnounced W p v rows s t new h i)
 
-  abbrev swAt : Bool → (ℕ → ℕ) → Versioned → Out
-  swAt t new h = leaves p v (rows p) (onSwap W p v rows s t new h)
+  abbrev swapOut : Bool → (ℕ → ℕ) → Versioned → Out
+  swapOut t new h = leaves p v (rows p) (onSwap W p v rows s t new h)
 
-  abbrev setSeg : ℕ → Versioned → Var
-  setSeg i w = record { header = v .header; segment = change (v .segment) i w; seen = v .seen; stored = v .stored; storer = v .storer }
+  abbrev withSegment : ℕ → Versioned → Var
+  withSegment i w = record { header = v .header; segment = change (v .segment) i w; seen = v .seen; stored = v .stored; storer = v .storer }
 
-  abbrev rdAt : Bool → Aim → Versioned → ℕ → Out
-  rdAt t a h i = leaves p v (rows p) (onSegment W p v rows s t a h i)
+  abbrev segmentOut : Bool → Aim → Versioned → ℕ → Out
+  segmentOut t a h i = leaves p v (rows p) (onSegment W p v rows s t a h i)
 
-  abbrev csAt : Bool → Aim → Versioned → ℕ → ℕ → Out
-  csAt t a h i z = leaves p v (rows p) (onSegmentSwap W p v rows s t a h i z)
+  abbrev segmentSwapOut : Bool → Aim → Versioned → ℕ → ℕ → Out
+  segmentSwapOut t a h i z = leaves p v (rows p) (onSegmentSwap W p v rows s t a h i z)
 
-  abbrev fin : Aim → Out
-  fin a = leaves p v (rows p) (through W p v rows s a)
+  abbrev throughOut : Aim → Out
+  throughOut a = leaves p v (rows p) (through W p v rows s a)
 
-  abbrev gone : Aim → Out
-  gone a = leaves p v (rows p) (cutShort W p v rows s a)
+  abbrev cutShortOut : Aim → Out
+  cutShortOut a = leaves p v (rows p) (cutShort W p v rows s a)
 
-  abbrev ckAt : Bool → Bool → Aim → Versioned → ℕ → ℕ → Out
-  ckAt t more a h i y = leaves p v (rows p) (onHeader W p v rows s t more a h i y)
+  abbrev headerOut : Bool → Bool → Aim → Versioned → ℕ → ℕ → Out
+  headerOut t more a h i y = leaves p v (rows p) (onHeader W p v rows s t more a h i y)
 
 module _ (W p : ℕ) (v : Var) (rows : ℕ → ℕ → ℕ) (s : Sequence) (I : VarInv W v) (pos : 0 < W)
     (told : (i : ℕ) → i < W → suc (v .segment i .version) ≡ v .header .version → rows (v .header .value) i ≡ v .stored (v .header .version) i) where
   -- nothing shared is changed
-  still : (pl : Place) → Pair W p v (rows p) s pl → Fine W p v (go W p v rows s pl)
+  still : (pl : Place) → Pair W p v (rows p) s pl → Fine W p v (goesOut W p v rows s pl)
   still pl P = record { inv = I; rely = λ r n. alike W r v; pair = P; right = tt; counts = tt }
 
-  at-rd : (a : Aim) (h : Versioned) (i : ℕ) → Pair W p v (rows p) s (copies a h i readsSegment) →
-      (t : Bool) → eqb (suc (v .segment i .version)) (h .version) ≡ t → Fine W p v (rdAt W p v rows s t a h i)
-  at-rd a h i P true e = still (copies a h i (readsAnnounced (v .segment i)))
+  at-readsSegment : (a : Aim) (h : Versioned) (i : ℕ) → Pair W p v (rows p) s (copies a h i readsSegment) →
+      (t : Bool) → eqb (suc (v .segment i .version)) (h .version) ≡ t → Fine W p v (segmentOut W p v rows s t a h i)
+  at-readsSegment a h i P true e = still (copies a h i (readsAnnounced (v .segment i)))
       (recopy W p v (rows p) s a h i readsSegment (readsAnnounced (v .segment i)) P
       (record { prev = eqb-true (suc (v .segment i .version)) (h .version) e; kin = I .kin i (P .doing .0 .in') }))
-  at-rd a h i P false e =
+  at-readsSegment a h i P false e =
       let l : i < W = P .doing .0 .in' in
       let k : h .version ≤ v .segment i .version = omega (arith, I .lo i l, P .doing .0 .old, eqb-false (suc (v .segment i .version)) (h .version) e) in
       still (copies a h i (readsHeader (v .segment i .value)))
       (recopy W p v (rows p) s a h i readsSegment (readsHeader (v .segment i .value)) P
       (record { here' = k; read = v .segment i .version; lo = k; hi = I .hi i l; kin = I .kin i l }))
 
-  at-an : (a : Aim) (h : Versioned) (i : ℕ) (y : Versioned) → Pair W p v (rows p) s (copies a h i (readsAnnounced y)) →
-      Fine W p v (go W p v rows s (copies a h i (swapsSegment y (rows (h .value) i))))
-  at-an a h i y P = still (copies a h i (swapsSegment y (rows (h .value) i)))
+  at-readsAnnounced : (a : Aim) (h : Versioned) (i : ℕ) (y : Versioned) → Pair W p v (rows p) s (copies a h i (readsAnnounced y)) →
+      Fine W p v (goesOut W p v rows s (copies a h i (swapsSegment y (rows (h .value) i))))
+  at-readsAnnounced a h i y P = still (copies a h i (swapsSegment y (rows (h .value) i)))
       (recopy W p v (rows p) s a h i (readsAnnounced y) (swapsSegment y (rows (h .value) i)) P (P .doing .1, sound))
     where
       sound : suc (v .segment i .version) ≡ h .version → rows (h .value) i ≡ v .stored (h .version) i
@@ -144,16 +144,16 @@ module _ (W p : ℕ) (v : Var) (rows : ℕ → ℕ → ℕ) (s : Sequence) (I : 
           let t : rows (v .header .value) i ≡ v .stored (v .header .version) i = told i l (omega (arith, I .lo i l, P .doing .0 .old)) in
           cc (P .doing .0 .who, I .who)
 
-  at-ag : (a : Aim) (h : Versioned) (i : ℕ) → Pair W p v (rows p) s (copies a h i readsAgain) → Fine W p v (go W p v rows s (copies a h i (readsHeader (v .segment i .value))))
-  at-ag a h i P =
+  at-readsAgain : (a : Aim) (h : Versioned) (i : ℕ) → Pair W p v (rows p) s (copies a h i readsAgain) → Fine W p v (goesOut W p v rows s (copies a h i (readsHeader (v .segment i .value))))
+  at-readsAgain a h i P =
       let l : i < W = P .doing .0 .in' in
       still (copies a h i (readsHeader (v .segment i .value)))
       (recopy W p v (rows p) s a h i readsAgain (readsHeader (v .segment i .value)) P
       (record { here' = P .doing .1; read = v .segment i .version; lo = P .doing .1; hi = I .hi i l; kin = I .kin i l }))
 
-  at-cs : (a : Aim) (h : Versioned) (i : ℕ) (y : Versioned) (z : ℕ) → Pair W p v (rows p) s (copies a h i (swapsSegment y z)) →
-      (t : Bool) → same (v .segment i) y ≡ t → Fine W p v (csAt W p v rows s t a h i z)
-  at-cs a h i y z P false e = still (copies a h i readsAgain) (recopy W p v (rows p) s a h i (swapsSegment y z) readsAgain P past)
+  at-swapsSegment : (a : Aim) (h : Versioned) (i : ℕ) (y : Versioned) (z : ℕ) → Pair W p v (rows p) s (copies a h i (swapsSegment y z)) →
+      (t : Bool) → same (v .segment i) y ≡ t → Fine W p v (segmentSwapOut W p v rows s t a h i z)
+  at-swapsSegment a h i y z P false e = still (copies a h i readsAgain) (recopy W p v (rows p) s a h i (swapsSegment y z) readsAgain P past)
     where
       l : i < W
       l = P .doing .0 .in'
@@ -165,10 +165,10 @@ module _ (W p : ℕ) (v : Var) (rows : ℕ → ℕ → ℕ) (s : Sequence) (I : 
 
       past : h .version ≤ v .segment i .version
       past = omega (arith, I .lo i l, P .doing .0 .old, apart)
-  at-cs a h i y z P true e = record { inv = inv′; rely = λ r n. rely′ r; pair = pair′; right = tt; counts = tt }
+  at-swapsSegment a h i y z P true e = record { inv = inv′; rely = λ r n. rely′ r; pair = pair′; right = tt; counts = tt }
     where
       v′ : Var
-      v′ = setSeg W p v rows s i (stamp (h .version) z)
+      v′ = withSegment W p v rows s i (stamp (h .version) z)
 
       l : i < W
       l = P .doing .0 .in'
@@ -219,9 +219,9 @@ module _ (W p : ℕ) (v : Var) (rows : ℕ → ℕ → ℕ) (s : Sequence) (I : 
         (j : ℕ) → j < (i + 1) → change g i y j ≡ v .stored (h .version) j
     gathered g e d = change-all (λ j b. j < (i + 1) → b ≡ v .stored (h .version) j) g i y (λ _. val e) (λ j n l. d j (omega (arith, n)))
 
-  at-fin : (a : Aim) (h : Versioned) (i : ℕ) (y : ℕ) → Pair W p v (rows p) s (copies a h i (readsHeader y)) → v .header .version ≡ h .version → W ≤ i + 1 →
-      Fine W p v (fin W p v rows s (gather a i y))
-  at-fin (load g) h i y P e w =
+  at-through : (a : Aim) (h : Versioned) (i : ℕ) (y : ℕ) → Pair W p v (rows p) s (copies a h i (readsHeader y)) → v .header .version ≡ h .version → W ≤ i + 1 →
+      Fine W p v (throughOut W p v rows s (gather a i y))
+  at-through (load g) h i y P e w =
       let D : Copying W p v (rows p) s (load g) h i = P .doing .0 in
       let A : Loads p v s h i g = D .aim in
       let O : Opened W p v s (copies (load g) h i (readsHeader y)) = P .seq (D .open') in
@@ -246,7 +246,7 @@ module _ (W p : ℕ) (v : Var) (rows : ℕ → ℕ → ℕ) (s : Sequence) (I : 
           (v .stored (h .version), A .due, λ j l. gathered h i y (P .doing .1) g e (A .got) j (omega arith)),
         );
       }
-  at-fin store h i y P e w = record {
+  at-through store h i y P e w = record {
     inv = I;
     rely = λ r n. alike W r v;
     pair = record {
@@ -258,9 +258,9 @@ module _ (W p : ℕ) (v : Var) (rows : ℕ → ℕ → ℕ) (s : Sequence) (I : 
     counts = tt;
   }
 
-  at-gone : (a : Aim) (h : Versioned) (i : ℕ) (y : ℕ) → Pair W p v (rows p) s (copies a h i (readsHeader y)) → same (v .header) h ≡ false →
-      Fine W p v (gone W p v rows s a)
-  at-gone (load g) h i y P e =
+  at-cutShort : (a : Aim) (h : Versioned) (i : ℕ) (y : ℕ) → Pair W p v (rows p) s (copies a h i (readsHeader y)) → same (v .header) h ≡ false →
+      Fine W p v (cutShortOut W p v rows s a)
+  at-cutShort (load g) h i y P e =
       let D : Copying W p v (rows p) s (load g) h i = P .doing .0 in
       let A : Loads p v s h i g = D .aim in
       let O : Opened W p v s (copies (load g) h i (readsHeader y)) = P .seq (D .open') in
@@ -283,7 +283,7 @@ module _ (W p : ℕ) (v : Var) (rows : ℕ → ℕ → ℕ) (s : Sequence) (I : 
         counts = tt;
         right = first (v .header .value) (v .seen .since p) (O .last) (omega (arith, O .count, A .from, D .old, n));
       }
-  at-gone store h i y P e = record {
+  at-cutShort store h i y P e = record {
     inv = I;
     rely = λ r n. alike W r v;
     pair = record {
@@ -296,7 +296,7 @@ module _ (W p : ℕ) (v : Var) (rows : ℕ → ℕ → ℕ) (s : Sequence) (I : 
   }
 
   at-next : (a : Aim) (h : Versioned) (i : ℕ) (y : ℕ) → Pair W p v (rows p) s (copies a h i (readsHeader y)) → v .header .version ≡ h .version → i + 1 < W →
-      Fine W p v (go W p v rows s (copies (gather a i y) h (i + 1) readsSegment))
+      Fine W p v (goesOut W p v rows s (copies (gather a i y) h (i + 1) readsSegment))
   at-next (load g) h i y P e w =
       let D : Copying W p v (rows p) s (load g) h i = P .doing .0 in
       still (copies (load (change g i y)) h (i + 1) readsSegment) (record {
@@ -332,19 +332,19 @@ module _ (W p : ℕ) (v : Var) (rows : ℕ → ℕ → ℕ) (s : Sequence) (I : 
         );
       })
 
-  at-ck : (a : Aim) (h : Versioned) (i : ℕ) (y : ℕ) → Pair W p v (rows p) s (copies a h i (readsHeader y)) →
-      (t : Bool) → same (v .header) h ≡ t → (l : Bool) → ltb (i + 1) W ≡ l → Fine W p v (ckAt W p v rows s t l a h i y)
-  at-ck a h i y P true e true f = at-next a h i y P (same-true (v .header) h e .0) (ltb-true (i + 1) W f)
-  at-ck a h i y P true e false f = at-fin a h i y P (same-true (v .header) h e .0) (ltb-false (i + 1) W f)
-  at-ck a h i y P false e l f = at-gone a h i y P e
+  at-readsHeader : (a : Aim) (h : Versioned) (i : ℕ) (y : ℕ) → Pair W p v (rows p) s (copies a h i (readsHeader y)) →
+      (t : Bool) → same (v .header) h ≡ t → (l : Bool) → ltb (i + 1) W ≡ l → Fine W p v (headerOut W p v rows s t l a h i y)
+  at-readsHeader a h i y P true e true f = at-next a h i y P (same-true (v .header) h e .0) (ltb-true (i + 1) W f)
+  at-readsHeader a h i y P true e false f = at-through a h i y P (same-true (v .header) h e .0) (ltb-false (i + 1) W f)
+  at-readsHeader a h i y P false e l f = at-cutShort a h i y P e
 
   at-copies : (a : Aim) (h : Versioned) (i : ℕ) (ph : Phase) → Pair W p v (rows p) s (copies a h i ph) → Fine W p v (acts Many W p v rows s (copies a h i ph))
   unfolding rule
-  at-copies a h i readsSegment P = at-rd a h i P (eqb (suc (v .segment i .version)) (h .version)) refl
-  at-copies a h i (readsAnnounced y) P = at-an a h i y P
-  at-copies a h i (swapsSegment y z) P = at-cs a h i y z P (same (v .segment i) y) refl
-  at-copies a h i readsAgain P = at-ag a h i P
-  at-copies a h i (readsHeader y) P = at-ck a h i y P (same (v .header) h) refl (ltb (i + 1) W) refl
+  at-copies a h i readsSegment P = at-readsSegment a h i P (eqb (suc (v .segment i .version)) (h .version)) refl
+  at-copies a h i (readsAnnounced y) P = at-readsAnnounced a h i y P
+  at-copies a h i (swapsSegment y z) P = at-swapsSegment a h i y z P (same (v .segment i) y) refl
+  at-copies a h i readsAgain P = at-readsAgain a h i P
+  at-copies a h i (readsHeader y) P = at-readsHeader a h i y P (same (v .header) h) refl (ltb (i + 1) W) refl
 
   -- what is due to p is written down, and nothing else changes
   module _ (d : Returned) where
@@ -371,7 +371,7 @@ module _ (W p : ℕ) (v : Var) (rows : ℕ → ℕ → ℕ) (s : Sequence) (I : 
 
   -- a store that is refused
   refused : (new : ℕ → ℕ) (pl : Place) → Pair W p v (rows p) s pl → s .opened ≡ true → v .header .version ≢ s .kept → storing pl ≡ false →
-      ((w : Versioned) → Storing w pl → ⊥) → Fine W p v (refuse W p v rows s new)
+      ((w : Versioned) → Storing w pl → ⊥) → Fine W p v (refusesOut W p v rows s new)
   refused new pl P o n t q =
       let O : Opened W p v s pl = P .seq o in
       let f : v .seen .atomic .valid p ≡ false = O .valid ∙ ne-eqb (v .header .version) (s .kept) n in
@@ -383,7 +383,7 @@ module _ (W p : ℕ) (v : Var) (rows : ℕ → ℕ → ℕ) (s : Sequence) (I : 
         right = (change-same (v .seen .due) p (truth false), λ _. some-other p (v .seen .since p) (O .others t) (omega (arith, O .count, O .old, n)));
       })
 
-  at-storeReads : (new : ℕ → ℕ) → Pair W p v (rows p) s (storeReads new) → (t : Bool) → eqb (v .header .version) (s .kept) ≡ t → Fine W p v (scAt W p v rows s t new)
+  at-storeReads : (new : ℕ → ℕ) → Pair W p v (rows p) s (storeReads new) → (t : Bool) → eqb (v .header .version) (s .kept) ≡ t → Fine W p v (readOut W p v rows s t new)
   at-storeReads new P true e = still (announces new (v .header) 0) (record {
     seq = λ o. reseat W p v s (storeReads new) (announces new (v .header) 0) (λ e. e) (λ e. e) (P .seq o);
     lag = P .lag;
@@ -391,7 +391,7 @@ module _ (W p : ℕ) (v : Var) (rows : ℕ → ℕ → ℕ) (s : Sequence) (I : 
   })
   at-storeReads new P false e = refused new (storeReads new) P (P .doing) (eqb-false (v .header .version) (s .kept) e) refl (λ w b. b)
 
-  at-announces : (new : ℕ → ℕ) (h : Versioned) (i : ℕ) → Pair W p v (rows p) s (announces new h i) → (t : Bool) → ltb (i + 1) W ≡ t → Fine W p v (annAt W p v rows s t new h i)
+  at-announces : (new : ℕ → ℕ) (h : Versioned) (i : ℕ) → Pair W p v (rows p) s (announces new h i) → (t : Bool) → ltb (i + 1) W ≡ t → Fine W p v (announcedOut W p v rows s t new h i)
   at-announces new h i P t e = by t e
     where
       T : Telling p v (rows p) s new h i
@@ -400,7 +400,7 @@ module _ (W p : ℕ) (v : Var) (rows : ℕ → ℕ → ℕ) (s : Sequence) (I : 
       told′ : (j : ℕ) → j < (i + 1) → change (rows p) i (new i) j ≡ new j
       told′ = change-all (λ j b. j < (i + 1) → b ≡ new j) (rows p) i (new i) (λ _. refl) (λ j n l. T .told j (omega (arith, n)))
 
-      by : (t : Bool) → ltb (i + 1) W ≡ t → Fine W p v (annAt W p v rows s t new h i)
+      by : (t : Bool) → ltb (i + 1) W ≡ t → Fine W p v (announcedOut W p v rows s t new h i)
       by false e = record {
         inv = I;
         rely = λ r n. alike W r v;
@@ -424,7 +424,7 @@ module _ (W p : ℕ) (v : Var) (rows : ℕ → ℕ → ℕ) (s : Sequence) (I : 
         counts = tt;
       }
 
-  at-swapsHeader : (new : ℕ → ℕ) (h : Versioned) → Pair W p v (rows p) s (swapsHeader new h) → (t : Bool) → same (v .header) h ≡ t → Fine W p v (swAt W p v rows s t new h)
+  at-swapsHeader : (new : ℕ → ℕ) (h : Versioned) → Pair W p v (rows p) s (swapsHeader new h) → (t : Bool) → same (v .header) h ≡ t → Fine W p v (swapOut W p v rows s t new h)
   at-swapsHeader new h P false e =
       let T : Telling p v (rows p) s new h W = P .doing in
       refused new (swapsHeader new h) P (T .open') (λ k. same-false (v .header) h e (omega (arith, T .from))

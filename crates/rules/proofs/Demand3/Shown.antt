@@ -4,7 +4,7 @@ use mathlib.Core.Bool.{Bool, true, false, cond}
 use mathlib.Core.List.{List, [], _∷_}
 use Prim.Native.Nat.{ℕ, zero, suc, _-_, _^_, _≤_, _<_}
 use native.Mathlib.Omega.{arith}
-use lib.ListN.{replicate}
+use lib.ListN.{length, replicate}
 use Rattle.word.specs.Word as words
 use Rattle.rules.specs.Demand3.{Turn, start, answer, answered, due}
 use Rattle.rules.specs.Demand3Runs as runs
@@ -21,23 +21,24 @@ use Rattle.rules.specs.Sizes.{bits}
 use Rattle.rules.specs.Steps as steps
 use Rattle.rules.specs.declared.Answer.{Answer}
 use Rattle.rules.specs.declared.Answer.the-variants.{Value, Witness, Yes}
+use Rattle.rules.specs.declared.Check.the-variants.{Fine}
 use Rattle.rules.specs.declared.Settings.{Settings}
 use Rattle.rules.specs.declared.Start.the-variants.{Ready}
 use Rattle.rules.proofs.Held as held
-use Rattle.rules.proofs.Demand3.Accepted.{in-form}
+use Rattle.rules.proofs.Keeps.{process-fits}
 use Rattle.rules.proofs.Demand3.Change.{never, change-other}
 use Rattle.rules.proofs.Demand3.Follow.{place-in}
-use Rattle.rules.proofs.Demand3.Runs.{begin-cases, step-cases, Shaped, Fresh, fresh-of, run-shaped}
+use Rattle.rules.proofs.Demand3.Runs.{begin-cases, step-cases, ready-fine, Shaped, run-shaped}
 
 -- the variable of an event that is taken is below T
 variable-in : (event : Event) (state : State) → taken (answerOf event state) ≡ true → variableIn event state < state .board .settings .t
 variable-in (begin me call values) state =
     begin-cases (λ a. taken (a .answer) ≡ true → refusals.variableOf call < state .board .settings .t) (state .board) me call values (state .words)
-    (λ t g. t .variable-in) (λ r g. never (sym g))
+    (λ a b g. b .variable) (λ r g. never (sym g))
 variable-in (step me) state =
     step-cases (λ a. taken (a .0 .answer) ≡ true → variableAt (placeOf state me) < state .board .settings .t) (state .board) me (state .words)
-    (λ t g. place-in (state .board .settings) (processes.processAt (state .board) me .opened) (placeOf state me)
-    (held.clauses (state .board .settings) (processes.processAt (state .board) me) (in-form (state .board) me (state .words) (t .board-taken)) .place) (t .busy))
+    (λ a busy g. place-in (state .board .settings) (processes.processAt (state .board) me .opened) (placeOf state me)
+    (held.clauses (state .board .settings) (processes.processAt (state .board) me) (process-fits (state .board) (state .words) (a .good) me (a .mine)) .place) busy)
     (λ r g. never (sym g))
 
 -- nothing is ever seen of a variable T or above
@@ -55,7 +56,7 @@ module _ (s : Settings) (x : ℕ) (beyond : s .t ≤ x) where
           change-other seen (variableIn event state) o x (λ q. omega arith)
       by false e = refl
 
-  pub seen-beyond : (lent : List ℕ) → Fresh s lent → (events : List Event) → seenIn (fresh s lent) events x ≡ unseen
+  pub seen-beyond : (lent : List ℕ) → refusals.sizesCheck s (length lent) ≡ Fine → (events : List Event) → seenIn (fresh s lent) events x ≡ unseen
   unfolding seenIn
   seen-beyond lent f [] = refl
   seen-beyond lent f (event ∷ events) =
@@ -66,7 +67,7 @@ pub one-variable : (t : Turn) → t .settings .t ≡ 1 → (n : ℕ) → seenIn 
     (x : ℕ) → seenIn (start t) (step (t .me) ∷ t .events) x .total ≤ n
 one-variable t e n h zero = h
 one-variable t e n h (suc x) =
-    rw (seen-beyond (t .settings) (suc x) (omega (arith, e)) (t .lent) (fresh-of (t .settings) (t .lent) (t .ready)) (step (t .me) ∷ t .events)) (omega arith)
+    rw (seen-beyond (t .settings) (suc x) (omega (arith, e)) (t .lent) (ready-fine (t .settings) (t .lent) (t .ready)) (step (t .me) ∷ t .events)) (omega arith)
 
 -- what a turn computes to
 record Computed (t : Turn) (stores : ℕ) (a : Answer) (first : ℕ) : Type 0 where

@@ -1,24 +1,26 @@
 -- How many steps a call takes: always, whatever the others do. Each step that the board takes brings its process nearer
 -- the end of its call. Assumes nothing.
-use mathlib.Core.Path.{_≡_, refl}
+use mathlib.Core.Path.{_≡_, refl, sym, subst}
 use mathlib.Core.Bool.{Bool, true, false, cond}
 use mathlib.Core.List.{List, [], _∷_}
-use Prim.Native.Nat.{ℕ, zero, suc, _+_, _-_, _*_, _≤_, _<_}
+use Prim.Native.Nat.{ℕ, suc, _+_, _-_, _*_, _≤_, _<_}
 use native.Mathlib.Omega.{arith}
 use lib.Dec.{eqb, ltb}
-use lib.ListN.{length, getD, replicate}
+use lib.ListN.{length}
 use lib.Seq.{getD-set-same, getD-set-other}
 use borrow.Author.Tests.{ltb-true}
-use Rattle.word.specs.Word.{tagOf, valueOf, previousTag}
+use Rattle.word.specs.Word.{tagOf, previousTag}
 use Rattle.rules.specs.Figure4.{Step}
-use Rattle.rules.specs.Figure6.{newHeader, saving, copyThrough, copyOn, copyCutShort}
+use Rattle.rules.specs.Figure6.{saving, copyOn, copyCutShort}
 use Rattle.rules.specs.GoodForm.{placeFits}
 use Rattle.rules.specs.Onlooker.{taken, placeOf}
 use Rattle.rules.specs.Figure2.{change}
 use Rattle.rules.specs.OwnSteps.{Own, counting, mostStepsBy, mostSteps, ownSteps}
-use Rattle.rules.specs.Processes.{nobody, processAt, putProcess, isIdle, closing, keptOf, goesOn, ends, endsWith}
+use Rattle.rules.specs.Processes.{nobody, processAt, putProcess, isIdle, keptOf}
 use Rattle.rules.specs.Sizes.{bits, wordOf, headerOf, segmentOf}
-use Rattle.rules.specs.declared.Answer.the-variants.{Value, Witness, Yes, No}
+use Rattle.rules.specs.declared.Answer.the-variants.{Yes, No}
+use Rattle.rules.specs.declared.Check.{Check}
+use Rattle.rules.specs.declared.Check.the-variants.{Fine}
 use Rattle.rules.specs.declared.Copy.{Copy}
 use Rattle.rules.specs.declared.Answered.{Answered}
 use Rattle.rules.specs.declared.Board.{Board}
@@ -27,9 +29,10 @@ use Rattle.rules.specs.declared.Call.the-variants.{Load, Validate, Store
 use Rattle.rules.specs.declared.Kind.{Kind}
 use Rattle.rules.specs.declared.Kind.the-variants.{One, Many}
 use Rattle.rules.specs.declared.Moved.{Moved}
-use Rattle.rules.specs.Entry.{freshProcess, freshBoard, beginRule, stepRule}
+use Rattle.rules.specs.Entry.{beginRule, stepBy, stepRule}
+use Rattle.rules.specs.Refusals.{sizesCheck, stepCheck}
 use Rattle.rules.specs.Runs.{State, Event, begin, step, processOf, fresh, run}
-use Rattle.rules.specs.Demand3.{place, StepsBounded}
+use Rattle.rules.specs.Demand3.{Turn, before, place, own, StepsBounded}
 use Rattle.rules.specs.Steps.{firstPlace, beginning, stepFrom, processStep}
 use Rattle.rules.specs.declared.Place.{Place}
 use Rattle.rules.specs.declared.Place.the-variants.{Idle, LoadReadsWord, ValidateReadsWord, StoreSwapsWord, LoadReadsHeader, ValidateReadsHeader, StoreReadsHeader, StoreAnnounces, StoreSwapsHeader, ReadsSegment, ReadsAnnounced, SwapsSegment, ReadsSegmentAgain, ReadsHeader}
@@ -37,9 +40,11 @@ use Rattle.rules.specs.declared.Process.{Process}
 use Rattle.rules.specs.declared.Settings.{Settings}
 use Rattle.rules.proofs.Held.{segment-in, clauses}
 use Rattle.rules.proofs.Sized.{sized}
-use Rattle.rules.proofs.Demand3.Accepted.{Taken, in-form}
+use Rattle.rules.proofs.Accepted.{Accepted, step-accepted}
+use Rattle.rules.proofs.Branches.{branch, both-arms}
+use Rattle.rules.proofs.Keeps.{process-fits}
 use Rattle.rules.proofs.Demand3.Change.{never, change-all}
-use Rattle.rules.proofs.Demand3.Runs.{Shaped, Fresh, begin-cases, step-cases, run-shaped, fresh-of}
+use Rattle.rules.proofs.Demand3.Runs.{begin-cases, step-cases, ready-fine, Shaped, fresh-idle, fresh-is, run-shaped, accepts}
 
 -- the steps that are left from a place, at most; w segments
 abbrev pub left : ℕ → Place → ℕ
@@ -58,80 +63,64 @@ left w (SwapsSegment c read announced) = 5 * (w - suc (c .segment)) + 3
 left w (ReadsSegmentAgain c) = 5 * (w - suc (c .segment)) + 2
 left w (ReadsHeader c value) = 5 * (w - suc (c .segment)) + 1
 
+-- a step brings its process nearer the end, and answers no refusal
+pub record Nearer (w : ℕ) (place : Place) (r : Step) : Type 0 where
+  pub closer : left w (r .0 .process .place) < left w place
+  pub answers : taken (r .0 .answer) ≡ true
+
 yes-or-no : (t : Bool) → taken (cond t Yes No) ≡ true
 yes-or-no true = refl
 yes-or-no false = refl
 
 module _ (s : Settings) (p : Process) (me : ℕ) (words : List ℕ) (pos : 1 ≤ s .w) where
-  abbrev Nearer : Place → Moved → Type 0
-  Nearer place r = (left (s .w) (r .process .place) < left (s .w) place) × (taken (r .answer) ≡ true)
+  -- the rest of Copy
+  on : (c : Copy) (value : ℕ) (q : Process) → Nearer (s .w) (ReadsHeader c value) (copyOn s c q, words)
+  on c value q =
+      branch (λ (r : Moved). Nearer (s .w) (ReadsHeader c value) (r, words)) (ltb (c .segment + 1) (s .w)) _ _
+      (λ e. record { closer = omega (arith, ltb-true (c .segment + 1) (s .w) e); answers = refl })
+      (λ e. both-arms (λ (r : Moved). Nearer (s .w) (ReadsHeader c value) (r, words)) (c .gathers) _ _
+      (record { closer = omega arith; answers = refl }) (record { closer = omega arith; answers = refl }))
 
-  abbrev Nears : Place → Step → Type 0
-  Nears place r = Nearer place (r .0)
+  short : (c : Copy) (value header : ℕ) → Nearer (s .w) (ReadsHeader c value) (copyCutShort s c header p, words)
+  short c value header =
+      both-arms (λ (r : Moved). Nearer (s .w) (ReadsHeader c value) (r, words)) (c .gathers) _ _
+      (record { closer = omega arith; answers = refl }) (record { closer = omega arith; answers = refl })
 
-  word-swapped : (x : ℕ) (t : Bool) (a b : List ℕ) → Nears (StoreSwapsWord x) (cond t (ends Yes (closing x p), a) (ends No (closing x p), b))
-  word-swapped x true a b = (omega arith, refl)
-  word-swapped x false a b = (omega arith, refl)
+  announced : (x header j : ℕ) → j < s .w → (t : Bool) → ltb (j + 1) (s .w) ≡ t →
+      left (s .w) (cond t (StoreAnnounces x header (j + 1)) (StoreSwapsHeader x header)) < left (s .w) (StoreAnnounces x header j)
+  announced x header j l true e = omega (arith, ltb-true (j + 1) (s .w) e)
+  announced x header j l false e = omega arith
 
-  header-read : (x header : ℕ) (t : Bool) (a b : List ℕ) → Nears (StoreReadsHeader x) (cond t (goesOn (StoreAnnounces x header 0) p, a) (ends No (closing x p), b))
-  header-read x header true a b = (omega arith, refl)
-  header-read x header false a b = (omega arith, refl)
-
-  row-written : (x header j : ℕ) (t : Bool) → j < s .w → ltb (j + 1) (s .w) ≡ t →
-      Nearer (StoreAnnounces x header j) (goesOn (cond t (StoreAnnounces x header (j + 1)) (StoreSwapsHeader x header)) p)
-  row-written x header j true l e = (omega (arith, ltb-true (j + 1) (s .w) e), refl)
-  row-written x header j false l e = (omega arith, refl)
-
-  header-swapped : (x header new : ℕ) (t : Bool) (a b : List ℕ) →
-      Nears (StoreSwapsHeader x header) (cond t (goesOn (ReadsSegment (record { variable = x; header = new; segment = 0; gathers = false })) p, a) (ends No (closing x p), b))
-  header-swapped x header new true a b = (omega arith, refl)
-  header-swapped x header new false a b = (omega arith, refl)
-
-  segment-read : (c : Copy) (word value : ℕ) (t : Bool) (a b : List ℕ) → c .segment < s .w →
-      Nears (ReadsSegment c) (cond t (goesOn (ReadsAnnounced c word) p, a) (goesOn (ReadsHeader c value) p, b))
-  segment-read c word value true a b l = (omega arith, refl)
-  segment-read c word value false a b l = (omega arith, refl)
-
-  segment-swapped : (c : Copy) (read announced : ℕ) (t : Bool) (a b : List ℕ) →
-      Nears (SwapsSegment c read announced) (cond t (goesOn (ReadsHeader c announced) p, a) (goesOn (ReadsSegmentAgain c) p, b))
-  segment-swapped c read announced true a b = (omega arith, refl)
-  segment-swapped c read announced false a b = (omega arith, refl)
-
-  through : (c : Copy) (value : ℕ) (q : Process) (g : Bool) → Nearer (ReadsHeader c value) (cond g (endsWith Value (q .gathered) q) (ends Yes (closing (c .variable) q)))
-  through c value q true = (omega arith, refl)
-  through c value q false = (omega arith, refl)
-
-  cut-short : (c : Copy) (value header : ℕ) (g : Bool) → Nearer (ReadsHeader c value) (cond g (ends (Witness header) p) (ends Yes (closing (c .variable) p)))
-  cut-short c value header true = (omega arith, refl)
-  cut-short c value header false = (omega arith, refl)
-
-  on : (c : Copy) (value : ℕ) (q : Process) (t : Bool) → ltb (c .segment + 1) (s .w) ≡ t →
-      Nearer (ReadsHeader c value) (cond t (goesOn (ReadsSegment (record { variable = c .variable; header = c .header; segment = c .segment + 1; gathers = c .gathers })) q) (copyThrough c q))
-  on c value q true e = (omega (arith, ltb-true (c .segment + 1) (s .w) e), refl)
-  on c value q false e = through c value q (c .gathers)
-
-  header-checked : (c : Copy) (value header : ℕ) (t : Bool) (a b : List ℕ) → Nears (ReadsHeader c value) (cond t (copyOn s c (saving c value p), a) (copyCutShort s c header p, b))
-  header-checked c value header true a b = on c value (saving c value p) (ltb (c .segment + 1) (s .w)) refl
-  header-checked c value header false a b = cut-short c value (valueOf (bits s) header) (c .gathers)
-
-  -- a step brings its process nearer the end
-  pub nearer : (m : ℕ) (place : Place) → placeFits s m place ≡ true → isIdle place ≡ false → Nears place (stepFrom place s p me words)
+  pub nearer : (m : ℕ) (place : Place) → placeFits s m place ≡ true → isIdle place ≡ false → Nearer (s .w) place (stepFrom place s p me words)
   nearer m Idle f i = never i
-  nearer m (LoadReadsWord x) f i = (omega arith, refl)
-  nearer m (ValidateReadsWord x) f i = (omega arith, yes-or-no (eqb (wordOf x words) (keptOf x p)))
-  nearer m (StoreSwapsWord x) f i = word-swapped x (eqb (wordOf x words) (keptOf x p)) _ _
-  nearer m (LoadReadsHeader x) f i = (omega arith, refl)
-  nearer m (ValidateReadsHeader x) f i = (omega arith, yes-or-no (eqb (tagOf (bits s) (headerOf s x words)) (keptOf x p)))
-  nearer m (StoreReadsHeader x) f i = header-read x (headerOf s x words) (eqb (tagOf (bits s) (headerOf s x words)) (keptOf x p)) _ _
-  nearer m (StoreAnnounces x header j) f i = row-written x header j (ltb (j + 1) (s .w)) (segment-in s m x header j f) refl
-  nearer m (StoreSwapsHeader x header) f i = header-swapped x header (newHeader s me header) (eqb (headerOf s x words) header) _ _
+  nearer m (LoadReadsWord x) f i = record { closer = omega arith; answers = refl }
+  nearer m (ValidateReadsWord x) f i = record { closer = omega arith; answers = yes-or-no (eqb (wordOf x words) (keptOf x p)) }
+  nearer m (StoreSwapsWord x) f i =
+      both-arms (Nearer (s .w) (StoreSwapsWord x)) (eqb (wordOf x words) (keptOf x p)) _ _
+      (record { closer = omega arith; answers = refl }) (record { closer = omega arith; answers = refl })
+  nearer m (LoadReadsHeader x) f i = record { closer = omega arith; answers = refl }
+  nearer m (ValidateReadsHeader x) f i =
+      record { closer = omega arith; answers = yes-or-no (eqb (tagOf (bits s) (headerOf s x words)) (keptOf x p)) }
+  nearer m (StoreReadsHeader x) f i =
+      both-arms (Nearer (s .w) (StoreReadsHeader x)) (eqb (tagOf (bits s) (headerOf s x words)) (keptOf x p)) _ _
+      (record { closer = omega arith; answers = refl }) (record { closer = omega arith; answers = refl })
+  nearer m (StoreAnnounces x header j) f i =
+      record { closer = announced x header j (segment-in s m x header j f) (ltb (j + 1) (s .w)) refl; answers = refl }
+  nearer m (StoreSwapsHeader x header) f i =
+      both-arms (Nearer (s .w) (StoreSwapsHeader x header)) (eqb (headerOf s x words) header) _ _
+      (record { closer = omega arith; answers = refl }) (record { closer = omega arith; answers = refl })
   nearer m (ReadsSegment c) f i =
-      segment-read c (segmentOf s (c .variable) (c .segment) words) _ (eqb (tagOf (bits s) (segmentOf s (c .variable) (c .segment) words)) (previousTag (bits s) (tagOf (bits s) (c .header)))) _ _
-      (segment-in s m (c .variable) (c .header) (c .segment) f)
-  nearer m (ReadsAnnounced c read) f i = (omega arith, refl)
-  nearer m (SwapsSegment c read announced) f i = segment-swapped c read announced (eqb (segmentOf s (c .variable) (c .segment) words) read) _ _
-  nearer m (ReadsSegmentAgain c) f i = (omega arith, refl)
-  nearer m (ReadsHeader c value) f i = header-checked c value (headerOf s (c .variable) words) (eqb (headerOf s (c .variable) words) (c .header)) _ _
+      both-arms (Nearer (s .w) (ReadsSegment c))
+      (eqb (tagOf (bits s) (segmentOf s (c .variable) (c .segment) words)) (previousTag (bits s) (tagOf (bits s) (c .header)))) _ _
+      (record { closer = omega arith; answers = refl }) (record { closer = omega arith; answers = refl })
+  nearer m (ReadsAnnounced c read) f i = record { closer = omega arith; answers = refl }
+  nearer m (SwapsSegment c read announced) f i =
+      both-arms (Nearer (s .w) (SwapsSegment c read announced)) (eqb (segmentOf s (c .variable) (c .segment) words) read) _ _
+      (record { closer = omega arith; answers = refl }) (record { closer = omega arith; answers = refl })
+  nearer m (ReadsSegmentAgain c) f i = record { closer = omega arith; answers = refl }
+  nearer m (ReadsHeader c value) f i =
+      both-arms (Nearer (s .w) (ReadsHeader c value)) (eqb (headerOf s (c .variable) words) (c .header)) _ _
+      (on c value (saving c value p)) (short c value (headerOf s (c .variable) words))
 
 -- the steps taken and the steps left come to no more than the most
 record Timed (s : Settings) (own : Own) (place : Place) : Type 0 where
@@ -154,8 +143,8 @@ put-timed s own board me p mine l h o =
     (rw (getD-set-same (board .processes) me p nobody l) h)
     (λ q n. rw (getD-set-other (board .processes) me q p nobody n) (o q))
 
-room : (board : Board) (me : ℕ) (words : List ℕ) {s : Settings} → Shaped s board → Taken board me words → me < length (board .processes)
-room board me words h a = omega (arith, h .sixteen, sized (board .settings) (a .fits) .n-most, a .me-in)
+room : (board : Board) (me : ℕ) (words : List ℕ) {s : Settings} → Shaped s board → Accepted board me words → me < length (board .processes)
+room board me words h a = omega (arith, h .sixteen, sized (board .settings) (a .sizes .settings) .n-most, a .mine)
 
 module _ (s : Settings) (own : ℕ → Own) where
   abbrev AllTimed : Board → (ℕ → Own) → Type 0
@@ -169,8 +158,8 @@ module _ (s : Settings) (own : ℕ → Own) where
       After (begin me call values) (beginRule board me call values words)
   begin-timed board me call values words h o =
       begin-cases (After (begin me call values)) board me call values words
-      (λ t. put-timed s own board me (beginning (board .settings) call values (processAt board me)) (record { call = call; steps = 0 })
-      (room board me words h (t .board-taken)) (record { sum = rw (h .settings) (omega (arith, first-timed (s .kind) (s .w) call)) }) o)
+      (λ a b. put-timed s own board me (beginning (board .settings) call values (processAt board me)) (record { call = call; steps = 0 })
+      (room board me words h a) (record { sum = rw (h .settings) (omega (arith, first-timed (s .kind) (s .w) call)) }) o)
       (λ r. o)
 
   step-timed : (board : Board) (me : ℕ) (words : List ℕ) → Shaped s board → AllTimed board own →
@@ -178,37 +167,26 @@ module _ (s : Settings) (own : ℕ → Own) where
   unfolding processStep
   step-timed board me words h o =
       step-cases (λ a. After (step me) (a .0)) board me words
-      (λ t.
+      (λ a busy.
       let p : Process = processAt board me in
       let moved : Moved = stepFrom (p .place) (board .settings) p me words .0 in
-      let n = nearer (board .settings) p me words (sized (board .settings) (t .board-taken .fits) .w-least) (p .opened) (p .place)
-      (clauses (board .settings) p (in-form board me words (t .board-taken)) .place) (t .busy) in
-      let d : left (s .w) (moved .process .place) < left (s .w) (p .place) = rw (← (h .settings)) (n .0) in
+      let n = nearer (board .settings) p me words (sized (board .settings) (a .sizes .settings) .w-least) (p .opened) (p .place)
+      (clauses (board .settings) p (process-fits board words (a .good) me (a .mine)) .place) busy in
+      let d : left (s .w) (moved .process .place) < left (s .w) (p .place) = rw (← (h .settings)) (n .closer) in
       let mine : Timed s (counting (step me) (own me)) (moved .process .place) = record { sum = omega (arith, o me .sum) } in
-      rw (n .1) (put-timed s own board me (moved .process) (counting (step me) (own me)) (room board me words h (t .board-taken)) mine o))
+      rw (n .answers) (put-timed s own board me (moved .process) (counting (step me) (own me)) (room board me words h a) mine o))
       (λ r. o)
 
-fresh-timed : (s : Settings) (q : ℕ) → Timed s (record { call = Load 0; steps = 0 }) (processAt (freshBoard s) q .place)
-fresh-timed s q = rw (idle q) (record { sum = omega arith })
-  where
-    idle : (q : ℕ) → getD (replicate 16 freshProcess) q nobody .place ≡ Idle
-    idle q = at 16 q
-      where
-        at : (n q : ℕ) → getD (replicate n freshProcess) q nobody .place ≡ Idle
-        at zero q = refl
-        at (suc n) zero = refl
-        at (suc n) (suc q) = at n q
-
-timed : (s : Settings) (lent : List ℕ) → Fresh s lent → (events : List Event) (q : ℕ) →
+timed : (s : Settings) (lent : List ℕ) → sizesCheck s (length lent) ≡ Fine → (events : List Event) (q : ℕ) →
     Timed s (ownSteps (fresh s lent) events q) (placeOf (run (fresh s lent) events) q)
 unfolding run ownSteps
-timed s lent f [] q = rw (f .is-fresh) (fresh-timed s q)
-timed s lent f (begin me call values ∷ events) q =
+timed s lent ready [] q = rw (fresh-is s lent ready, fresh-idle 16 q) (record { sum = omega arith })
+timed s lent ready (begin me call values ∷ events) q =
     let state : State = run (fresh s lent) events in
-    begin-timed s (ownSteps (fresh s lent) events) (state .board) me call values (state .words) (run-shaped s lent f events) (timed s lent f events) q
-timed s lent f (step me ∷ events) q =
+    begin-timed s (ownSteps (fresh s lent) events) (state .board) me call values (state .words) (run-shaped s lent ready events) (timed s lent ready events) q
+timed s lent ready (step me ∷ events) q =
     let state : State = run (fresh s lent) events in
-    step-timed s (ownSteps (fresh s lent) events) (state .board) me (state .words) (run-shaped s lent f events) (timed s lent f events) q
+    step-timed s (ownSteps (fresh s lent) events) (state .board) me (state .words) (run-shaped s lent ready events) (timed s lent ready events) q
 
 -- a process in a call has a step left
 some-left : (w : ℕ) (place : Place) → isIdle place ≡ false → 0 < left w place
@@ -227,8 +205,24 @@ some-left w (SwapsSegment c read announced) i = omega arith
 some-left w (ReadsSegmentAgain c) i = omega arith
 some-left w (ReadsHeader c value) i = omega arith
 
+-- a step whose check passes is taken
+passes : (board : Board) (me : ℕ) (words : List ℕ) → stepCheck board me words ≡ Fine → taken (stepRule board me words .0 .answer) ≡ true
+unfolding stepRule processStep
+passes board me words e =
+    let a = step-accepted board me words e in
+    let p : Process = processAt board me in
+    subst (λ (k : Check). taken (stepBy k board me words .0 .answer) ≡ true) (sym e)
+    (nearer (board .settings) p me words (sized (board .settings) (a .0 .sizes .settings) .w-least) (p .opened) (p .place)
+    (clauses (board .settings) p (process-fits board words (a .0 .good) me (a .0 .mine)) .place) (a .1) .answers)
+
+sum-of : (t : Turn) → own t .steps + left (t .settings .w) (place t) ≤ mostSteps (t .settings) (own t .call)
+sum-of t = timed (t .settings) (t .lent) (ready-fine (t .settings) (t .lent) (t .ready)) (t .events) (t .me) .sum
+
 pub bounded : StepsBounded
-bounded = record {
-  never-more = λ t. omega (arith, timed (t .settings) (t .lent) (fresh-of (t .settings) (t .lent) (t .ready)) (t .events) (t .me) .sum);
-  answered-by-then = λ t i. omega (arith, timed (t .settings) (t .lent) (fresh-of (t .settings) (t .lent) (t .ready)) (t .events) (t .me) .sum, some-left (t .settings .w) (place t) i);
-}
+bounded =
+    record {
+      never-more = λ t. omega (arith, sum-of t);
+      answered-by-then = λ t busy. omega (arith, sum-of t, some-left (t .settings .w) (place t) busy);
+      never-refused = λ t busy. passes (before t .board) (t .me) (before t .words)
+          (accepts (t .settings) (t .lent) (ready-fine (t .settings) (t .lent) (t .ready)) (t .events) (t .me) busy);
+    }
