@@ -64,7 +64,7 @@ pub data Another (p : ℕ) : List ℕ → Type 0 where
 
 -- the premise: no variable is stored with success more than 2^b - 2 times, this step counted too
 abbrev pub Few : Turn → Type 0
-Few t = (x : ℕ) → seenIn (start t) (step (t .me) ∷ t .events) x .total ≤ 2 ^ bits (t .settings) - 2
+Few t = (x : ℕ) → x < t .settings .t → seenIn (start t) (step (t .me) ∷ t .events) x .total ≤ 2 ^ bits (t .settings) - 2
 
 -- past the first step of a load, or in a validate or a store
 abbrev pub inSequence : Place → Bool

@@ -2,7 +2,7 @@
 -- with 2^b - 1 that shows the premise to be tight.
 use mathlib.Core.Path.{_≡_}
 use mathlib.Core.List.{List, [], _∷_, _++_}
-use Prim.Native.Nat.{ℕ, _-_, _^_, _≤_}
+use Prim.Native.Nat.{ℕ, _-_, _^_, _≤_, _<_}
 use lib.ListN.{replicate}
 use Rattle.rules.specs.Demand3.{Turn, start, answer, answered, Few, AnswersRight}
 use Rattle.rules.specs.Entry.{setUpRule}
@@ -81,7 +81,7 @@ oneMore =
 
 -- the premise with one store more
 abbrev pub FewButOne : Turn → Type 0
-FewButOne t = (x : ℕ) → seenIn (start t) (step (t .me) ∷ t .events) x .total ≤ 2 ^ bits (t .settings) - 1
+FewButOne t = (x : ℕ) → x < t .settings .t → seenIn (start t) (step (t .me) ∷ t .events) x .total ≤ 2 ^ bits (t .settings) - 1
 
 pub record Demand3Runs : Type 0 where
   pub p7-meets : Meets many4 p7 1 1 Value 5

@@ -1,9 +1,9 @@
 -- Demand 3 holds, under the window premise and under the total. Assumes nothing.
-use mathlib.Core.Path.{_≡_, refl, sym, _∙_, subst}
+use mathlib.Core.Path.{_≡_, refl, ap, sym, _∙_, subst}
 use mathlib.Core.Logic.{_≢_}
 use mathlib.Core.Bool.{Bool, true, false, cond, _&&_}
-use mathlib.Core.List.{List, [], _∷_}
-use Prim.Native.Nat.{ℕ, _-_, _^_, _≤_}
+use mathlib.Core.List.{List, [], _∷_, _++_}
+use Prim.Native.Nat.{ℕ, _-_, _^_, _≤_, _<_}
 use native.Mathlib.Omega.{arith}
 use lib.ListN.{length}
 use lib.Pow.{pow-mono}
@@ -27,11 +27,13 @@ use Rattle.rules.specs.declared.Kind.{Kind}
 use Rattle.rules.specs.declared.Kind.the-variants.{One, Many}
 use Rattle.rules.specs.declared.Process.{Process}
 use Rattle.rules.specs.declared.Settings.{Settings}
+use Rattle.rules.proofs.Held.{clauses}
+use Rattle.rules.proofs.Keeps.{process-fits}
 use Rattle.rules.proofs.Sized.{sized}
 use Rattle.rules.proofs.Tests.{and-right}
 use Rattle.rules.proofs.Accepted.{Accepted, stands}
 use Rattle.rules.proofs.Demand3.Change.{never, change-all}
-use Rattle.rules.proofs.Demand3.Follow.{ProcessMeans, BoardMeans, alike, RightAnswer, BeginFollows, begin-follows, StepFollows, step-follows}
+use Rattle.rules.proofs.Demand3.Follow.{ProcessMeans, BoardMeans, place-in, alike, RightAnswer, BeginFollows, begin-follows, StepFollows, step-follows}
 use Rattle.rules.proofs.Demand3.Fresh.{fresh-means}
 use Rattle.rules.proofs.Demand3.Inv.{Counts}
 use Rattle.rules.proofs.Demand3.Kinds.{width, fewK}
@@ -152,7 +154,7 @@ module _ (t : Turn) (A : InWindow t) where
 some-not-none : (q : ℕ) (m l : List ℕ) → l ≡ q ∷ m → l ≢ []
 some-not-none q m l e n = let z : _≡_ {A = ℕ} 0 1 = cc in omega arith
 
--- M-108's form
+-- under the weaker premise
 pub in-window : Demand3InWindow
 in-window = record {
   store-counts = λ t A g new swapped e.
@@ -186,6 +188,13 @@ grows event state seen y = by (taken (answerOf event state))
         (more (processOf event) (noteOf event state) (seen (variableIn event state))) (λ j n. omega arith) y
     by false = omega arith
 
+-- so what holds of the totals of a whole order holds of those before each of its steps
+pub grows-on : (start : State) (later events : List Event) (x : ℕ) → seenIn start events x .total ≤ seenIn start (later ++ events) x .total
+unfolding seenIn
+grows-on start [] events x = omega arith
+grows-on start (event ∷ later) events x =
+    omega (arith, grows-on start later events x, grows event (run start (later ++ events)) (seenIn start (later ++ events)) x)
+
 -- a sequence has no more stores than there were in all
 module _ (s : Settings) (z : Sized s) where
   few-there : (state : State) (seen : ℕ → Seen) (me : ℕ) → Shaped s (state .board) → Stood s state seen →
@@ -207,21 +216,35 @@ module _ (s : Settings) (z : Sized s) where
           (fewK (s .kind) (s .w) me (st .vars (st .procs me .at)) (st .rows me) (st .procs me .sequences (st .procs me .at)) (st .procs me .place)
           (S .inv .var (st .procs me .at)) (rw (eq-eqb (st .procs me .at) (st .procs me .at) refl) at (S .inv .pair me (st .procs me .at))) (like .sequence ∙ i))
 
-  short-of-few : (lent : List ℕ) → sizesCheck s (length lent) ≡ Fine → (events : List Event) → ((x : ℕ) → seenIn (fresh s lent) events x .total ≤ 2 ^ bits s - 2) →
-      AllShort (fresh s lent) (bits s) events
+  -- .. of a variable below T
+  step-variable : (state : State) (me : ℕ) → Shaped s (state .board) → taken (answerOf (step me) state) ≡ true → variableAt (placeOf state me) < s .t
+  step-variable state me h =
+      step-cases (λ a. taken (a .0 .answer) ≡ true → variableAt (placeOf state me) < s .t) (state .board) me (state .words)
+      (λ a busy g.
+      let p : Process = processAt (state .board) me in
+      let k : state .board .settings .t ≡ s .t = ap (λ (u : Settings). u .t) (h .settings) in
+      omega (
+        arith,
+        place-in (state .board .settings) (p .opened) (p .place)
+            (clauses (state .board .settings) p (process-fits (state .board) (state .words) (a .good) me (a .mine)) .place) busy,
+      ))
+      (λ r g. never (sym g))
+
+  short-of-few : (lent : List ℕ) → sizesCheck s (length lent) ≡ Fine → (events : List Event) →
+      ((x : ℕ) → x < s .t → seenIn (fresh s lent) events x .total ≤ 2 ^ bits s - 2) → AllShort (fresh s lent) (bits s) events
   unfolding seenIn AllShort
   short-of-few lent f [] F = tt
   short-of-few lent f (begin me call values ∷ events) F =
-      short-of-few lent f events (λ x. omega (arith, F x, grows (begin me call values) (run (fresh s lent) events) (seenIn (fresh s lent) events) x))
+      short-of-few lent f events (λ x l. omega (arith, F x l, grows (begin me call values) (run (fresh s lent) events) (seenIn (fresh s lent) events) x))
   short-of-few lent f (step me ∷ events) F =
       let state : State = run (fresh s lent) events in
-      let seen : ℕ → Seen = seenIn (fresh s lent) events in
-      let G : (x : ℕ) → seenIn (fresh s lent) events x .total ≤ 2 ^ bits s - 2 = λ x. omega (arith, F x, grows (step me) (run (fresh s lent) events) (seenIn (fresh s lent) events) x) in
+      let G : (x : ℕ) → x < s .t → seenIn (fresh s lent) events x .total ≤ 2 ^ bits s - 2 =
+      λ x l. omega (arith, F x l, grows (step me) (run (fresh s lent) events) (seenIn (fresh s lent) events) x) in
       let A : AllShort (fresh s lent) (bits s) events = short-of-few lent f events G in (
         λ g i. omega (
           arith,
-          G (variableAt (placeOf (run (fresh s lent) events) me)),
-          few-there (run (fresh s lent) events) (seenIn (fresh s lent) events) me (run-shaped s lent f events) (along s z lent f events A) g i,
+          G (variableAt (placeOf state me)) (step-variable state me (run-shaped s lent f events) g),
+          few-there state (seenIn (fresh s lent) events) me (run-shaped s lent f events) (along s z lent f events A) g i,
         ),
         A,
       )

@@ -1,10 +1,9 @@
 -- Runs that meet demand 3's premise, computed from the rules; and one past it that has a wrong answer. Assumes nothing.
-use mathlib.Core.Path.{_≡_, refl, ap, sym, _∙_}
-use mathlib.Core.Bool.{Bool, true, false, cond}
-use mathlib.Core.List.{List, [], _∷_}
+use mathlib.Core.Path.{_≡_, refl, ap}
+use mathlib.Core.List.{List, _∷_}
 use Prim.Native.Nat.{ℕ, zero, suc, _-_, _^_, _≤_, _<_}
 use native.Mathlib.Omega.{arith}
-use lib.ListN.{length, replicate}
+use lib.ListN.{replicate}
 use Rattle.word.specs.Word as words
 use Rattle.rules.specs.Demand3.{Turn, start, answer, answered, due}
 use Rattle.rules.specs.Demand3Runs as runs
@@ -12,62 +11,23 @@ use Rattle.rules.specs.Demand3Runs.{turnOf, Meets, one4, many4, FewButOn
 use Rattle.rules.specs.Entry as entry
 use Rattle.rules.specs.Figure2.{change, Returned, nothing, content, truth}
 use Rattle.rules.specs.GoodForm as form
-use Rattle.rules.specs.Onlooker.{Seen, unseen, see, taken, variableAt, noteOf, variableIn, placeOf, answerOf, watch, seenIn}
+use Rattle.rules.specs.Onlooker.{seenIn}
 use Rattle.rules.specs.Processes as processes
 use Rattle.rules.specs.Refusals as refusals
-use Rattle.rules.specs.Runs.{State, Event, begin, step, processOf, fresh, run}
+use Rattle.rules.specs.Runs.{Event, step, run}
 use Rattle.rules.specs.Sizes as sizes
 use Rattle.rules.specs.Sizes.{bits}
 use Rattle.rules.specs.Steps as steps
 use Rattle.rules.specs.declared.Answer.{Answer}
 use Rattle.rules.specs.declared.Answer.the-variants.{Value, Witness, Yes}
-use Rattle.rules.specs.declared.Check.the-variants.{Fine}
 use Rattle.rules.specs.declared.Settings.{Settings}
 use Rattle.rules.specs.declared.Start.the-variants.{Ready}
-use Rattle.rules.proofs.Held as held
-use Rattle.rules.proofs.Keeps.{process-fits}
-use Rattle.rules.proofs.Demand3.Change.{never, change-other}
-use Rattle.rules.proofs.Demand3.Follow.{place-in}
-use Rattle.rules.proofs.Demand3.Runs.{begin-cases, step-cases, ready-fine, Shaped, run-shaped}
-
--- the variable of an event that is taken is below T
-variable-in : (event : Event) (state : State) → taken (answerOf event state) ≡ true → variableIn event state < state .board .settings .t
-variable-in (begin me call values) state =
-    begin-cases (λ a. taken (a .answer) ≡ true → refusals.variableOf call < state .board .settings .t) (state .board) me call values (state .words)
-    (λ a b g. b .variable) (λ r g. never (sym g))
-variable-in (step me) state =
-    step-cases (λ a. taken (a .0 .answer) ≡ true → variableAt (placeOf state me) < state .board .settings .t) (state .board) me (state .words)
-    (λ a busy g. place-in (state .board .settings) (processes.processAt (state .board) me .opened) (placeOf state me)
-    (held.clauses (state .board .settings) (processes.processAt (state .board) me) (process-fits (state .board) (state .words) (a .good) me (a .mine)) .place) busy)
-    (λ r g. never (sym g))
-
--- nothing is ever seen of a variable T or above
-module _ (s : Settings) (x : ℕ) (beyond : s .t ≤ x) where
-  watch-beyond : (event : Event) (state : State) (seen : ℕ → Seen) → Shaped s (state .board) → watch event state seen x ≡ seen x
-  watch-beyond event state seen h = by (taken (answerOf event state)) refl
-    where
-      o : Seen
-      o = see (processOf event) (noteOf event state) (seen (variableIn event state))
-
-      by : (t : Bool) → taken (answerOf event state) ≡ t → cond t (change seen (variableIn event state) o) seen x ≡ seen x
-      by true e =
-          let l : variableIn event state < state .board .settings .t = variable-in event state e in
-          let k : state .board .settings .t ≡ s .t = ap (λ (u : Settings). u .t) (h .settings) in
-          change-other seen (variableIn event state) o x (λ q. omega arith)
-      by false e = refl
-
-  pub seen-beyond : (lent : List ℕ) → refusals.sizesCheck s (length lent) ≡ Fine → (events : List Event) → seenIn (fresh s lent) events x ≡ unseen
-  unfolding seenIn
-  seen-beyond lent f [] = refl
-  seen-beyond lent f (event ∷ events) =
-      watch-beyond event (run (fresh s lent) events) (seenIn (fresh s lent) events) (run-shaped s lent f events) ∙ seen-beyond lent f events
 
 -- with one variable the premise is a bound on the first
 pub one-variable : (t : Turn) → t .settings .t ≡ 1 → (n : ℕ) → seenIn (start t) (step (t .me) ∷ t .events) 0 .total ≤ n →
-    (x : ℕ) → seenIn (start t) (step (t .me) ∷ t .events) x .total ≤ n
-one-variable t e n h zero = h
-one-variable t e n h (suc x) =
-    rw (seen-beyond (t .settings) (suc x) (omega (arith, e)) (t .lent) (ready-fine (t .settings) (t .lent) (t .ready)) (step (t .me) ∷ t .events)) (omega arith)
+    (x : ℕ) → x < t .settings .t → seenIn (start t) (step (t .me) ∷ t .events) x .total ≤ n
+one-variable t e n h zero l = h
+one-variable t e n h (suc x) l = absurd (omega (arith, e))
 
 -- what a turn computes to
 record Computed (t : Turn) (stores : ℕ) (a : Answer) (first : ℕ) : Type 0 where
