@@ -41,7 +41,7 @@ use Rattle.rules.proofs.Demand3.Kinds.{width, VarInvK, PairK, FineK, fi
 use Rattle.rules.proofs.Demand3.Link.{at-place, StandsOne, one-idle, one-load, one-validate, one-store, Stands, at-idle, at-load, at-validate, at-store, at-announce, at-swap, at-segment, at-announced, at-segment-swap, at-again, at-header, StandsK, Says, says-busy, says-values, says-witness, says-yes, says-no, Linked}
 use Rattle.rules.proofs.Demand3.LinkMany.{link-many}
 use Rattle.rules.proofs.Demand3.LinkOne.{link-one}
-use Rattle.rules.proofs.Demand3.Machine.{Told, Place as Stand, idle, Sequence, Var, none, Core, anew, rules}
+use Rattle.rules.proofs.Demand3.Machine.{Told, Place as Stand, idle, Sequence, Var, none, Core, Out, anew, rules}
 use Rattle.rules.proofs.Demand3.Memory.{MemK, WroteK, put-kind}
 use Rattle.rules.proofs.Demand3.Runs as runs
 use Rattle.rules.proofs.Demand3.Steps.{nearer}
@@ -195,7 +195,19 @@ module _ (s : Settings) (z : Sized s) (st : State) (I : Inv (s .kind) (s .w) st)
         };
       }
 
-  -- a step
+  -- a step: the variable of the call; what the machine does and leaves; what the board does
+  abbrev there : ℕ
+  there = st .procs me .at
+
+  abbrev core : Core
+  core = rules (s .kind) (s .w) me (st .vars there) (st .rows) (st .procs me .sequences there) (st .procs me .place)
+
+  abbrev out : Out
+  out = outAt (s .kind) (s .w) st me there
+
+  abbrev result : Step
+  result = stepFrom (q .place) s q me words
+
   abbrev sees-step : Answer → ℕ → Seen
   sees-step a = sees (variableAt (q .place)) (noteAt (q .place) (newValues q) a) a
 
@@ -211,12 +223,6 @@ module _ (s : Settings) (z : Sized s) (st : State) (I : Inv (s .kind) (s .w) st)
   unfolding processStep
   step-follows t still B = follows
     where
-      k : Kind
-      k = s .kind
-
-      x : ℕ
-      x = st .procs me .at
-
       mn : me < s .n
       mn = t .mine
 
@@ -226,62 +232,56 @@ module _ (s : Settings) (z : Sized s) (st : State) (I : Inv (s .kind) (s .w) st)
       mine : ProcessMeans (s .kind) s (st .procs me) q
       mine = R .process me mn
 
-      same-variable : variableAt (q .place) ≡ st .procs me .at
+      same-variable : variableAt (q .place) ≡ there
       same-variable = alike (s .kind) s (st .procs me) q mine .variable still
 
-      xt : st .procs me .at < s .t
+      xt : there < s .t
       xt = rw same-variable at (place-in s (q .opened) (q .place) (form.clauses s q fits .place) still)
 
-      pair : PairK (s .kind) (s .w) me (st .vars (st .procs me .at)) (st .rows me) (st .procs me .sequences (st .procs me .at)) (st .procs me .place)
-      pair = rw (eq-eqb (st .procs me .at) (st .procs me .at) refl) at (I .pair me (st .procs me .at))
+      pair : PairK (s .kind) (s .w) me (st .vars there) (st .rows me) (st .procs me .sequences there) (st .procs me .place)
+      pair = rw (eq-eqb there there refl) at (I .pair me there)
 
-      got : taken (stepFrom (q .place) s q me words .0 .answer) ≡ true
+      got : taken (result .0 .answer) ≡ true
       got = nearer s q me words (z .w-least) (q .opened) (q .place) (form.clauses s q fits .place) still .answers
 
-      short : past (st .procs me .place) ≡ true → length (st .vars (st .procs me .at) .seen .since me) + 2 ≤ tagLimit (bits s)
-      short e = rw (← (R .as-seen (st .procs me .at)), ← same-variable) (B got (sym (alike (s .kind) s (st .procs me) q mine .sequence) ∙ e))
+      short : past (st .procs me .place) ≡ true → length (st .vars there .seen .since me) + 2 ≤ tagLimit (bits s)
+      short e = rw (← (R .as-seen there), ← same-variable) (B got (sym (alike (s .kind) s (st .procs me) q mine .sequence) ∙ e))
 
-      core : Core
-      core = rules (s .kind) (s .w) me (st .vars (st .procs me .at)) (st .rows) (st .procs me .sequences (st .procs me .at)) (st .procs me .place)
+      L : Linked (s .kind) s me there (q .place) q words (st .procs me .sequences) result
+          core
+      L = link (s .kind) s z me there (st .vars) (st .rows) (st .procs me .sequences) q words mn xt (R .memory) (mine .held) fits
+          (I .var there) (st .procs me .place) (mine .stands) still pair short
 
-      r : Step
-      r = stepFrom (q .place) s q me words
-
-      L : Linked (s .kind) s me (st .procs me .at) (q .place) q words (st .procs me .sequences) (stepFrom (q .place) s q me words)
-          (rules (s .kind) (s .w) me (st .vars (st .procs me .at)) (st .rows) (st .procs me .sequences (st .procs me .at)) (st .procs me .place))
-      L = link (s .kind) s z me (st .procs me .at) (st .vars) (st .rows) (st .procs me .sequences) q words mn xt (R .memory) (mine .held) fits
-          (I .var (st .procs me .at)) (st .procs me .place) (mine .stands) still pair short
-
-      fine-step : FineK (s .kind) (s .w) me (st .vars (st .procs me .at)) (outAt (s .kind) (s .w) st me (st .procs me .at))
-      fine-step = fine (s .kind) (s .w) (z .w-least) st I me (st .procs me .at) refl
+      fine-step : FineK (s .kind) (s .w) me (st .vars there) out
+      fine-step = fine (s .kind) (s .w) (z .w-least) st I me there refl
 
       -- what is seen is what the machine saw
-      seen-same : (y : ℕ) → sees-step (stepFrom (q .place) s q me words .0 .answer) y
-          ≡ change (st .vars) (st .procs me .at) (outAt (s .kind) (s .w) st me (st .procs me .at) .var) y .seen
+      seen-same : (y : ℕ) → sees-step (result .0 .answer) y
+          ≡ change (st .vars) there (out .var) y .seen
       seen-same = rw (got, same-variable, L .note)
-          (change-both (λ y a c. a ≡ c .seen) seen (st .vars) (st .procs me .at)
-          (see me (core .note) (seen (st .procs me .at))) (outAt (s .kind) (s .w) st me (st .procs me .at) .var)
-          (ap (see me (core .note)) (R .as-seen (st .procs me .at))) (λ y n. R .as-seen y))
+          (change-both (λ y a c. a ≡ c .seen) seen (st .vars) there
+          (see me (core .note) (seen there)) (out .var)
+          (ap (see me (core .note)) (R .as-seen there)) (λ y n. R .as-seen y))
 
-      seen-there : sees-step (stepFrom (q .place) s q me words .0 .answer) (variableAt (q .place))
-          ≡ outAt (s .kind) (s .w) st me (st .procs me .at) .var .seen
-      seen-there = seen-same (variableAt (q .place)) ∙ ap (λ (y : ℕ). change (st .vars) (st .procs me .at) (outAt (s .kind) (s .w) st me (st .procs me .at) .var) y .seen) same-variable
-          ∙ ap (λ (v : Var). v .seen) (change-same (st .vars) (st .procs me .at) (outAt (s .kind) (s .w) st me (st .procs me .at) .var))
+      seen-there : sees-step (result .0 .answer) (variableAt (q .place))
+          ≡ out .var .seen
+      seen-there = seen-same (variableAt (q .place)) ∙ ap (λ (y : ℕ). change (st .vars) there (out .var) y .seen) same-variable
+          ∙ ap (λ (v : Var). v .seen) (change-same (st .vars) there (out .var))
 
-      follows : StepFollows (stepped board me (stepFrom (q .place) s q me words))
+      follows : StepFollows (stepped board me result)
       follows = record {
-        next = apply st me (st .procs me .at) (outAt (s .kind) (s .w) st me (st .procs me .at));
-        inv = machine-stepped (s .kind) (s .w) (z .w-least) st I me (st .procs me .at) refl;
+        next = apply st me there out;
+        inv = machine-stepped (s .kind) (s .w) (z .w-least) st I me there refl;
         means = record {
-          sixteen = length-set processes me (stepFrom (q .place) s q me words .0 .process) ∙ R .sixteen;
-          memory = put-kind (s .kind) s z (st .vars) (st .rows) words (R .memory) me (st .procs me .at) mn xt
-              (outAt (s .kind) (s .w) st me (st .procs me .at) .var) (core .put) (stepFrom (q .place) s q me words .1) (L .wrote) refl refl;
-          process = put-process (st .procs me .at) (stepFrom (q .place) s q me words .0 .process)
-              (record { at = st .procs me .at; place = core .place; sequences = change (st .procs me .sequences) (st .procs me .at) (core .sequence) }) mn
+          sixteen = length-set processes me (result .0 .process) ∙ R .sixteen;
+          memory = put-kind (s .kind) s z (st .vars) (st .rows) words (R .memory) me there mn xt
+              (out .var) (core .put) (result .1) (L .wrote) refl refl;
+          process = put-process there (result .0 .process)
+              (record { at = there; place = core .place; sequences = change (st .procs me .sequences) there (core .sequence) }) mn
               (record { stands = L .stands; held = L .held });
           as-seen = seen-same;
         };
-        right = rw seen-there (right-said (width (s .kind) (s .w)) me (outAt (s .kind) (s .w) st me (st .procs me .at) .var .seen)
-            (stepFrom (q .place) s q me words .0 .values) (core .told) (stepFrom (q .place) s q me words .0 .answer) (L .says) (fine-step .right));
+        right = rw seen-there (right-said (width (s .kind) (s .w)) me (out .var .seen)
+            (result .0 .values) (core .told) (result .0 .answer) (L .says) (fine-step .right));
         counts = λ g. rw (seen-there, L .note) (fine-step .counts);
       }

@@ -69,27 +69,39 @@ module _ (s : Settings) (z : Sized s) where
 
   -- a step of a board of these settings
   module _ (processes : List Process) (words : List ℕ) (seen : ℕ → Seen) (me : ℕ) (S : Stood s (stateOf s processes words) seen) where
-    abbrev Short-by : Answered × List ℕ → Type 0
-    Short-by a = taken (a .0 .answer) ≡ true → inSequence (placeOf (stateOf s processes words) me) ≡ true →
-        length (seen (variableAt (placeOf (stateOf s processes words) me)) .since me) ≤ 2 ^ bits s - 2
+    abbrev state : State
+    state = stateOf s processes words
 
-    step-by : ShortStep s (stateOf s processes words) seen me →
-        StepFollows s z (S .machine) (S .inv) processes words seen (S .means) me (stepRule (record { settings = s; processes = processes }) me words)
-    step-by = step-cases (λ a. Short-by a → StepFollows s z (S .machine) (S .inv) processes words seen (S .means) me a)
-        (record { settings = s; processes = processes }) me words
+    abbrev Follows : Answered × List ℕ → Type 0
+    Follows = StepFollows s z (S .machine) (S .inv) processes words seen (S .means) me
+
+    abbrev Short-by : Answered × List ℕ → Type 0
+    Short-by a = taken (a .0 .answer) ≡ true → inSequence (placeOf state me) ≡ true →
+        length (seen (variableAt (placeOf state me)) .since me) ≤ 2 ^ bits s - 2
+
+    step-by : ShortStep s state seen me →
+        Follows (stepRule (state .board) me words)
+    step-by = step-cases (λ a. Short-by a → Follows a)
+        (state .board) me words
         (λ a busy B. step-follows s z (S .machine) (S .inv) processes words seen (S .means) me a busy (λ g i. omega (arith, B g i, two)))
         (λ r B. record { next = S .machine; inv = S .inv; means = S .means; right = tt; counts = λ g. never (sym g) })
 
-    step-of : ShortStep s (stateOf s processes words) seen me → Stepped s (stateOf s processes words) seen me
+    step-of : ShortStep s state seen me → Stepped s state seen me
     step-of B =
-        let F : StepFollows s z (S .machine) (S .inv) processes words seen (S .means) me (stepRule (record { settings = s; processes = processes }) me words) = step-by B in
+        let F : Follows (stepRule (state .board) me words) = step-by B in
         record { stood = record { machine = F .next; inv = F .inv; means = F .means }; right = F .right; counts = F .counts }
 
   module _ (processes : List Process) (words : List ℕ) (seen : ℕ → Seen) (me : ℕ) (call : Call) (values : List ℕ) (S : Stood s (stateOf s processes words) seen) where
-    begin-of : Stood s (after (begin me call values) (stateOf s processes words)) (watch (begin me call values) (stateOf s processes words) seen)
+    abbrev state′ : State
+    state′ = stateOf s processes words
+
+    abbrev Begins : Answered → Type 0
+    Begins = BeginFollows s z (S .machine) (S .inv) processes words seen (S .means) me call
+
+    begin-of : Stood s (after (begin me call values) state′) (watch (begin me call values) state′ seen)
     begin-of =
-        let F : BeginFollows s z (S .machine) (S .inv) processes words seen (S .means) me call (beginRule (record { settings = s; processes = processes }) me call values words) =
-        begin-cases (BeginFollows s z (S .machine) (S .inv) processes words seen (S .means) me call) (record { settings = s; processes = processes }) me call values words
+        let F : Begins (beginRule (state′ .board) me call values words) =
+        begin-cases Begins (state′ .board) me call values words
         (λ a b. begin-follows s z (S .machine) (S .inv) processes words seen (S .means) me call values a b)
         (λ r. record { next = S .machine; inv = S .inv; means = S .means }) in
         record { machine = F .next; inv = F .inv; means = F .means }
@@ -180,9 +192,6 @@ more p (stores new false) o = omega arith
 grows : (event : Event) (state : State) (seen : ℕ → Seen) (y : ℕ) → seen y .total ≤ watch event state seen y .total
 grows event state seen y = by (taken (answerOf event state))
   where
-    x : ℕ
-    x = variableIn event state
-
     by : (t : Bool) → seen y .total ≤ cond t (change seen (variableIn event state) (see (processOf event) (noteOf event state) (seen (variableIn event state)))) seen y .total
     by true = change-all (λ j o. seen j .total ≤ o .total) seen (variableIn event state) (see (processOf event) (noteOf event state) (seen (variableIn event state)))
         (more (processOf event) (noteOf event state) (seen (variableIn event state))) (λ j n. omega arith) y
@@ -209,7 +218,6 @@ module _ (s : Settings) (z : Sized s) where
           length (seen (variableAt (placeOf state me)) .since me) ≤ seen (variableAt (placeOf state me)) .total
       there t busy i =
           let st : Machine = S .machine in
-          let x : ℕ = st .procs me .at in
           let mine : ProcessMeans (s .kind) s (st .procs me) (processAt (state .board) me) = S .means .process me (rw (h .settings) at (t .mine)) in
           let like = alike (s .kind) s (st .procs me) (processAt (state .board) me) mine in
           rw (like .variable busy, S .means .as-seen (st .procs me .at))

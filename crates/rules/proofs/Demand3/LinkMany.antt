@@ -52,9 +52,6 @@ module _ (s : Settings) (z : Sized s) (p x : ℕ) (v : Var) (rows : ℕ → ℕ 
     (MH : Means (bits s) (headerOf s x words) (v .header))
     (MS : (j : ℕ) → j < s .w → Means (bits s) (segmentOf s x j words) (v .segment j))
     (MR : (r : ℕ) → r < s .n → (j : ℕ) → j < s .w → announcedOf s r j words ≡ rows r j) where
-  abbrev b : ℕ
-  b = bits s
-
   same-held : Held Many s (change sequences x (sequences x)) (q .keep) (q .opened)
   same-held = held-same Many s sequences (q .keep) (q .opened) H x
 

@@ -30,23 +30,21 @@ use Rattle.rules.proofs.Demand3.Tags.{next-tag, Means, means-word, word
 module _ (s : Settings) (z : Sized s) (p x : ℕ) (v : Var) (rows : ℕ → ℕ → ℕ) (sequences : ℕ → Sequence) (q : Process) (words : List ℕ)
     (xt : x < s .t) (H : Held One s sequences (q .keep) (q .opened)) (M : Means (bits s) (wordOf x words) (v .header))
     (small : getD (q .values) 0 0 < valueLimit (bits s)) where
-  abbrev mine : Sequence
-  mine = sequences x
-
-  abbrev keptThere : Versioned
-  keptThere = stamp (sequences x .kept) (sequences x .kept-value)
+  -- the keep-word
+  abbrev kept-word : Versioned
+  kept-word = stamp (sequences x .kept) (sequences x .kept-value)
 
   -- the board's test is the machine's
   test : Opened₁ p v (sequences x) → length (v .seen .since p) + 2 ≤ tagLimit (bits s) →
-      eqb (wordOf x words) (keptOf x q) ≡ same (v .header) (stamp (sequences x .kept) (sequences x .kept-value))
+      eqb (wordOf x words) (keptOf x q) ≡ same (v .header) kept-word
   test O B = word-test (bits s) M (H .kept x xt) (O .old) (omega (arith, O .count))
 
   -- the new word has the next tag
-  new-word : same (v .header) (stamp (sequences x .kept) (sequences x .kept-value)) ≡ true →
+  new-word : same (v .header) kept-word ≡ true →
       Means (bits s) (newWord s q x) (stamp (suc (v .header .version)) (getD (q .values) 0 0))
   new-word e =
       let b : ℕ = bits s in
-      let k = same-true (v .header) (stamp (sequences x .kept) (sequences x .kept-value)) e in
+      let k = same-true (v .header) kept-word e in
       means-word b (nextTag b (tagOf b (keptOf x q))) (getD (q .values) 0 0) (suc (v .header .version)) small
       (ap (nextTag b) (H .kept x xt .tag) ∙ next-tag b (sequences x .kept) ∙ ap (λ (n : ℕ). suc n % tagLimit b) (sym (k .0)))
 
@@ -72,9 +70,9 @@ module _ (s : Settings) (z : Sized s) (p x : ℕ) (v : Var) (rows : ℕ → ℕ 
     note = refl;
   }
   link-one place stand one-store i P B =
-      let T : eqb (wordOf x words) (keptOf x q) ≡ same (v .header) (stamp (sequences x .kept) (sequences x .kept-value)) = test (P .seq (P .doing)) (B refl) in
+      let T : eqb (wordOf x words) (keptOf x q) ≡ same (v .header) kept-word = test (P .seq (P .doing)) (B refl) in
       branch (λ (r : Step). Linked One s p x (StoreSwapsWord x) q words sequences r
-      (onWordSwap 1 p v rows (sequences x) (same (v .header) (stamp (sequences x .kept) (sequences x .kept-value))) (at-place (q .values))))
+      (onWordSwap 1 p v rows (sequences x) (same (v .header) kept-word) (at-place (q .values))))
       (eqb (wordOf x words) (keptOf x q)) _ _
       (λ e. rw (sym T ∙ e) (record {
         stands = one-idle;

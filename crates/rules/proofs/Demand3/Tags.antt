@@ -71,9 +71,6 @@ pub word-test : (b : ℕ) {w u : ℕ} {a c : Versioned} → Means b w a → Mean
     eqb w u ≡ same a c
 word-test b {w} {u} {a} {c} M K l r = by (same a c) refl
   where
-    m : ℕ
-    m = tagLimit b
-
     by : (t : Bool) → same a c ≡ t → eqb w u ≡ t
     by true e =
         let k = same-true a c e in

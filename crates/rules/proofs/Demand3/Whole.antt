@@ -66,9 +66,6 @@ pub record Inv (k : Kind) (W : ℕ) (st : State) : Type 0 where
 
 -- process p, which is at the variable x, takes a step that leaves o
 module _ (k : Kind) (W : ℕ) (st : State) (I : Inv k W st) (p x : ℕ) (e : st .procs p .at ≡ x) (o : Out) (F : FineK k W p (st .vars x) o) where
-  r′ : Proc
-  r′ = record { at = x; place = o .place; sequences = change (st .procs p .sequences) x (o .sequence) }
-
   own : (y : ℕ) → PairK k W p (change (st .vars) x (o .var) y) (o .row) (change (st .procs p .sequences) x (o .sequence) y) (cond (eqb y x) (o .place) idle)
   own = change-both (λ y v s. PairK k W p v (o .row) s (cond (eqb y x) (o .place) idle)) (st .vars) (st .procs p .sequences) x (o .var) (o .sequence)
       (rw (eq-eqb x x refl) (F .pair))
