@@ -62,9 +62,15 @@ pub data Another (p : ℕ) : List ℕ → Type 0 where
   here : {q : ℕ} {l : List ℕ} → q ≢ p → Another p (q ∷ l)
   there : {q : ℕ} {l : List ℕ} → Another p l → Another p (q ∷ l)
 
+-- the most stores with success, b tag bits
+abbrev pub mostStores : ℕ → ℕ
+mostStores b = 2 ^ b - 2
+
 -- the premise: no variable is stored with success more than 2^b - 2 times, this step counted too
 abbrev pub Few : Turn → Type 0
-Few t = (x : ℕ) → x < t .settings .t → seenIn (start t) (step (t .me) ∷ t .events) x .total ≤ 2 ^ bits (t .settings) - 2
+Few t =
+    (x : ℕ) → x < t .settings .t
+    → seenIn (start t) (step (t .me) ∷ t .events) x .total ≤ mostStores (bits (t .settings))
 
 -- past the first step of a load, or in a validate or a store
 abbrev pub inSequence : Place → Bool
@@ -89,7 +95,7 @@ abbrev pub Short : State → ℕ → List Event → ℕ → Type 0
 Short s b events me =
     taken (answerOf (step me) (run s events)) ≡ true
     → inSequence (placeOf (run s events) me) ≡ true
-    → length (seenIn s events (variableAt (placeOf (run s events) me)) .since me) ≤ 2 ^ b - 2
+    → length (seenIn s events (variableAt (placeOf (run s events) me)) .since me) ≤ mostStores b
 
 unfoldable pub AllShort : State → ℕ → List Event → Type 0
 AllShort s b [] = Unit {0}
@@ -113,7 +119,8 @@ pub record AnswersRight (Premise : Turn → Type 0) : Type 0 where
   -- the sequence
   pub no-has-another : (t : Turn) → Premise t → answer t ≡ No → Another (t .me) (since t)
   -- a witness names the last process that stored there since that LL's first step
-  pub witness-is-last : (t : Turn) → Premise t → (q : ℕ) → answer t ≡ Witness q → (rest : List ℕ) × (since t ≡ q ∷ rest)
+  pub witness-is-last : (t : Turn) → Premise t → (q : ℕ) → answer t ≡ Witness q →
+      (rest : List ℕ) × (since t ≡ q ∷ rest)
   -- a load answers values exactly if no store to that variable succeeded between its first step and its answer
   pub values-if-none : (t : Turn) → Premise t → answer t ≡ Value → since t ≡ []
   pub witness-if-some : (t : Turn) → Premise t → (q : ℕ) → answer t ≡ Witness q → since t ≢ []

@@ -7,11 +7,14 @@ use lib.ListN.{replicate}
 use Rattle.rules.specs.Demand3.{Turn, start, answer, answered, Few, AnswersRight}
 use Rattle.rules.specs.Entry.{setUpRule}
 use Rattle.rules.specs.Onlooker.{seenIn}
+use Rattle.rules.specs.OwnSteps.{ownSteps}
 use Rattle.rules.specs.Runs.{Event, step}
 use Rattle.rules.specs.Schedules.{settings, ll, sc, times}
 use Rattle.rules.specs.Sizes.{bits}
 use Rattle.rules.specs.declared.Answer.{Answer}
 use Rattle.rules.specs.declared.Answer.the-variants.{Value, Witness, Yes}
+use Rattle.rules.specs.declared.Call.{Call}
+use Rattle.rules.specs.declared.Call.the-variants.{Load, Store}
 use Rattle.rules.specs.declared.Kind.the-variants.{One, Many}
 use Rattle.rules.specs.declared.Settings.{Settings}
 use Rattle.rules.specs.declared.Start.the-variants.{Ready}
@@ -32,6 +35,13 @@ pub record Meets (s : Settings) (events : List Event) (me stores : ℕ) (a : Ans
   pub total : seenIn (start (turnOf s ready events me)) (step me ∷ turnOf s ready events me .events) 0 .total ≡ stores
   pub answers : answer (turnOf s ready events me) ≡ a
   pub value : answered (turnOf s ready events me) 0 ≡ first
+
+-- after these events the step of `me` gives this answer to this call, at so many steps of its own
+pub record Takes (s : Settings) (events : List Event) (me : ℕ) (a : Answer) (call : Call) (steps : ℕ) : Type 0 where
+  pub ready : setUpRule s (replicate 4 0) .0 .start ≡ Ready
+  pub answers : answer (turnOf s ready events me) ≡ a
+  pub took : ownSteps (start (turnOf s ready events me)) (step me ∷ turnOf s ready events me .events) me
+      ≡ record { call = call; steps = steps }
 
 abbrev pub one4 : Settings
 one4 = settings 2 One 1 4 1
@@ -79,14 +89,27 @@ oneMore =
     ++ (ll 0 0 ∷ step 0 ∷ step 0 ∷ step 0 ∷ sc 0 0 9 ∷ step 0 ∷ step 0
     ∷ step 1 ∷ step 1 ∷ step 1 ∷ step 1 ∷ ll 1 0 ∷ step 1 ∷ step 1 ∷ [])
 
+-- process 0's store has swapped the header and read the segment; process 1's load swaps the segment; so process 0's own
+-- swap of it fails, and it reads it again
+abbrev pub helped : List Event
+helped =
+    ll 0 0 ∷ step 0 ∷ step 0 ∷ step 0 ∷ sc 0 0 5 ∷ step 0 ∷ step 0 ∷ step 0 ∷ step 0
+    ∷ ll 1 0 ∷ step 1 ∷ step 1 ∷ step 1 ∷ step 1
+    ∷ step 0 ∷ step 0 ∷ step 0 ∷ []
+
 -- the premise with one store more
 abbrev pub FewButOne : Turn → Type 0
-FewButOne t = (x : ℕ) → x < t .settings .t → seenIn (start t) (step (t .me) ∷ t .events) x .total ≤ 2 ^ bits (t .settings) - 1
+FewButOne t =
+    (x : ℕ) → x < t .settings .t
+    → seenIn (start t) (step (t .me) ∷ t .events) x .total ≤ 2 ^ bits (t .settings) - 1
 
 pub record Demand3Runs : Type 0 where
   pub p7-meets : Meets many4 p7 1 1 Value 5
   pub p8-meets : Meets many4 p8 1 1 (Witness 0) 0
   pub overtaken-meets : Meets many4 overtaken 1 14 (Witness 0) 0
   pub fourteenth-meets : Meets one4 fourteenth 0 14 Yes 0
+  -- the step bounds are met: P7's load takes 1 + 5W, a store that another has helped takes 2 + 6W
+  pub slowest-load : Takes many4 p7 1 Value (Load 0) 6
+  pub slowest-store : Takes many4 helped 0 Yes (Store 0) 8
   -- with 2^b - 1 stores demand 3 is false
   pub tight : AnswersRight FewButOne → ⊥

@@ -10,7 +10,7 @@ use lib.Pow.{pow-mono}
 use borrow.Author.Tests.{eq-eqb, eqb-true}
 use Rattle.word.specs.Word.{bitsFit}
 use Rattle.rules.specs.Bounds.{Sized}
-use Rattle.rules.specs.Demand3.{Turn, before, answer, answered, seen as seen-of, since, Few, inSequence, AllShort, InWindow, AnswersRight, Demand3, Demand3InWindow}
+use Rattle.rules.specs.Demand3.{mostStores, Turn, before, answer, answered, seen as seen-of, since, Few, inSequence, AllShort, InWindow, AnswersRight, Demand3, Demand3InWindow}
 use Rattle.rules.specs.Entry.{beginRule, stepRule}
 use Rattle.rules.specs.Figure2.{change}
 use Rattle.rules.specs.Onlooker.{Seen, Note, quiet, begins, loads, checks, stores, see, taken, variableAt, placeOf, answerOf, variableIn, noteOf, watch, seenIn}
@@ -58,7 +58,7 @@ record Stepped (s : Settings) (state : State) (seen : ℕ → Seen) (me : ℕ) :
 -- a step that is taken is in a short sequence
 abbrev ShortStep : Settings → State → (ℕ → Seen) → ℕ → Type 0
 ShortStep s state seen me =
-    taken (answerOf (step me) state) ≡ true → inSequence (placeOf state me) ≡ true → length (seen (variableAt (placeOf state me)) .since me) ≤ 2 ^ bits s - 2
+    taken (answerOf (step me) state) ≡ true → inSequence (placeOf state me) ≡ true → length (seen (variableAt (placeOf state me)) .since me) ≤ mostStores (bits s)
 
 abbrev stateOf : Settings → List Process → List ℕ → State
 stateOf s processes words = record { board = record { settings = s; processes = processes }; words = words }
@@ -77,7 +77,7 @@ module _ (s : Settings) (z : Sized s) where
 
     abbrev Short-by : Answered × List ℕ → Type 0
     Short-by a = taken (a .0 .answer) ≡ true → inSequence (placeOf state me) ≡ true →
-        length (seen (variableAt (placeOf state me)) .since me) ≤ 2 ^ bits s - 2
+        length (seen (variableAt (placeOf state me)) .since me) ≤ mostStores (bits s)
 
     step-by : ShortStep s state seen me →
         Follows (stepRule (state .board) me words)
@@ -239,14 +239,14 @@ module _ (s : Settings) (z : Sized s) where
       (λ r g. never (sym g))
 
   short-of-few : (lent : List ℕ) → sizesCheck s (length lent) ≡ Fine → (events : List Event) →
-      ((x : ℕ) → x < s .t → seenIn (fresh s lent) events x .total ≤ 2 ^ bits s - 2) → AllShort (fresh s lent) (bits s) events
+      ((x : ℕ) → x < s .t → seenIn (fresh s lent) events x .total ≤ mostStores (bits s)) → AllShort (fresh s lent) (bits s) events
   unfolding seenIn AllShort
   short-of-few lent f [] F = tt
   short-of-few lent f (begin me call values ∷ events) F =
       short-of-few lent f events (λ x l. omega (arith, F x l, grows (begin me call values) (run (fresh s lent) events) (seenIn (fresh s lent) events) x))
   short-of-few lent f (step me ∷ events) F =
       let state : State = run (fresh s lent) events in
-      let G : (x : ℕ) → x < s .t → seenIn (fresh s lent) events x .total ≤ 2 ^ bits s - 2 =
+      let G : (x : ℕ) → x < s .t → seenIn (fresh s lent) events x .total ≤ mostStores (bits s) =
       λ x l. omega (arith, F x l, grows (step me) (run (fresh s lent) events) (seenIn (fresh s lent) events) x) in
       let A : AllShort (fresh s lent) (bits s) events = short-of-few lent f events G in (
         λ g i. omega (

@@ -1,17 +1,18 @@
 -- Runs that meet demand 3's premise, computed from the rules; and one past it that has a wrong answer. Assumes nothing.
 use mathlib.Core.Path.{_≡_, refl, ap}
 use mathlib.Core.List.{List, _∷_}
-use Prim.Native.Nat.{ℕ, zero, suc, _-_, _^_, _≤_, _<_}
+use Prim.Native.Nat.{ℕ, zero, suc, _≤_, _<_}
 use native.Mathlib.Omega.{arith}
 use lib.ListN.{replicate}
 use Rattle.word.specs.Word as words
-use Rattle.rules.specs.Demand3.{Turn, start, answer, answered, due}
+use Rattle.rules.specs.Demand3.{mostStores, Turn, start, answer, answered, due}
 use Rattle.rules.specs.Demand3Runs as runs
 use Rattle.rules.specs.Demand3Runs.{turnOf, Meets, one4, many4, FewButOne, Demand3Runs}
 use Rattle.rules.specs.Entry as entry
 use Rattle.rules.specs.Figure2.{change, Returned, nothing, content, truth}
 use Rattle.rules.specs.GoodForm as form
 use Rattle.rules.specs.Onlooker.{seenIn}
+use Rattle.rules.specs.OwnSteps.{ownSteps}
 use Rattle.rules.specs.Processes as processes
 use Rattle.rules.specs.Refusals as refusals
 use Rattle.rules.specs.Runs.{Event, step, run}
@@ -20,6 +21,7 @@ use Rattle.rules.specs.Sizes.{bits}
 use Rattle.rules.specs.Steps as steps
 use Rattle.rules.specs.declared.Answer.{Answer}
 use Rattle.rules.specs.declared.Answer.the-variants.{Value, Witness, Yes}
+use Rattle.rules.specs.declared.Call.the-variants.{Load, Store}
 use Rattle.rules.specs.declared.Settings.{Settings}
 use Rattle.rules.specs.declared.Start.the-variants.{Ready}
 
@@ -50,10 +52,15 @@ record AllComputed : Type 0 where
   fourteenth : Computed (turnOf one4 ready-one runs.fourteenth 0) 14 Yes 0
   -- 15 stores: the load answers 9, and Figure 2's variable holds 5
   one-more : Computed (turnOf many4 ready-many runs.oneMore 1) 15 Value 9
+  p7-took : ownSteps (start (turnOf many4 ready-many runs.p7 1)) (step 1 ∷ turnOf many4 ready-many runs.p7 1 .events) 1
+      ≡ record { call = Load 0; steps = 6 }
+  helped : answer (turnOf many4 ready-many runs.helped 0) ≡ Yes
+  helped-took : ownSteps (start (turnOf many4 ready-many runs.helped 0)) (step 0 ∷ turnOf many4 ready-many runs.helped 0 .events) 0
+      ≡ record { call = Store 0; steps = 8 }
   one-more-due : first (due (turnOf many4 ready-many runs.oneMore 1)) ≡ 5
 
 computed : AllComputed
-unfolding runs.backwards run seenIn change words.word words.tagOf words.valueOf words.nextTag words.previousTag sizes.settingsFit processes.withOpen processes.withClosed processes.openCount steps.processStep form.all form.names form.valueFits form.onePlace form.manyPlace form.onePlaceOpen form.manyPlaceOpen form.headerHeld form.segmentHeld form.valueHeld form.valuesFit form.keptFit form.openFits form.processFits form.processesFit form.headersFit form.rowFits form.rowsFit form.wordsFit form.inGoodForm refusals.sizesCheck refusals.processCheck refusals.allBlank refusals.storable refusals.callCheck refusals.beginCheck refusals.stepCheck entry.setUpRule entry.beginRule entry.stepRule entry.openCountRule
+unfolding runs.backwards run ownSteps seenIn change words.word words.tagOf words.valueOf words.nextTag words.previousTag sizes.settingsFit processes.withOpen processes.withClosed processes.openCount steps.processStep form.all form.names form.valueFits form.onePlace form.manyPlace form.onePlaceOpen form.manyPlaceOpen form.headerHeld form.segmentHeld form.valueHeld form.valuesFit form.keptFit form.openFits form.processFits form.processesFit form.headersFit form.rowFits form.rowsFit form.wordsFit form.inGoodForm refusals.sizesCheck refusals.processCheck refusals.allBlank refusals.storable refusals.callCheck refusals.beginCheck refusals.stepCheck entry.setUpRule entry.beginRule entry.stepRule entry.openCountRule
 computed =
     record {
       ready-one = refl;
@@ -63,14 +70,17 @@ computed =
       overtaken = record { total = refl; answers = refl; value = refl };
       fourteenth = record { total = refl; answers = refl; value = refl };
       one-more = record { total = refl; answers = refl; value = refl };
+      p7-took = refl;
+      helped = refl;
+      helped-took = refl;
       one-more-due = refl;
     }
 
 meets : (s : Settings) (e : s .t ≡ 1) (ready : entry.setUpRule s (replicate 4 0) .0 .start ≡ Ready) (events : List Event) (me n : ℕ) (a : Answer) (first : ℕ) →
-    Computed (turnOf s ready events me) n a first → n ≤ 2 ^ bits s - 2 → Meets s events me n a first
+    Computed (turnOf s ready events me) n a first → n ≤ mostStores (bits s) → Meets s events me n a first
 meets s e ready events me n a first c l = record {
   ready = ready;
-  few = one-variable (turnOf s ready events me) e (2 ^ bits s - 2) (omega (arith, c .total));
+  few = one-variable (turnOf s ready events me) e (mostStores (bits s)) (omega (arith, c .total));
   total = c .total;
   answers = c .answers;
   value = c .value;
@@ -83,6 +93,8 @@ shown =
       p8-meets = meets many4 refl (computed .ready-many) runs.p8 1 1 (Witness 0) 0 (computed .p8) (omega arith);
       overtaken-meets = meets many4 refl (computed .ready-many) runs.overtaken 1 14 (Witness 0) 0 (computed .overtaken) (omega arith);
       fourteenth-meets = meets one4 refl (computed .ready-one) runs.fourteenth 0 14 Yes 0 (computed .fourteenth) (omega arith);
+      slowest-load = record { ready = computed .ready-many; answers = computed .p7 .answers; took = computed .p7-took };
+      slowest-store = record { ready = computed .ready-many; answers = computed .helped; took = computed .helped-took };
       tight = λ R.
           let t : Turn = turnOf many4 (computed .ready-many) runs.oneMore 1 in
           let few : FewButOne t = one-variable t refl 15 (omega (arith, computed .one-more .total)) in
