@@ -25,7 +25,8 @@ unfolding change
 change-other f k v j n = ap (λ b. cond b v (f j)) (ne-eqb j k n)
 
 -- what holds of the new value there, and of the old ones elsewhere, holds everywhere
-pub change-all {ℓ} : {A : Type ℓ} (P : ℕ → A → Type 0) (f : ℕ → A) (k : ℕ) (v : A) → P k v → ((j : ℕ) → j ≢ k → P j (f j)) → (j : ℕ) → P j (change f k v j)
+pub change-all {ℓ} : {A : Type ℓ} (P : ℕ → A → Type 0) (f : ℕ → A) (k : ℕ) (v : A) → P k v → ((j : ℕ) → j ≢ k → P j (f j)) →
+    (j : ℕ) → P j (change f k v j)
 unfolding change
 change-all P f k v h o j = by (eqb j k) refl
   where

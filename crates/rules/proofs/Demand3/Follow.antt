@@ -70,11 +70,16 @@ place-in s m (ValidateReadsHeader x) f i = form.many-in s x (form.many-open s m 
 place-in s m (StoreReadsHeader x) f i = form.many-in s x (form.many-open s m x f)
 place-in s m (StoreAnnounces x header j) f i = form.many-in s x (form.held s m x header (form.segment s m x header j f))
 place-in s m (StoreSwapsHeader x header) f i = form.many-in s x (form.held s m x header f)
-place-in s m (ReadsSegment c) f i = form.many-in s (c .variable) (form.held s m (c .variable) (c .header) (form.segment s m (c .variable) (c .header) (c .segment) f))
-place-in s m (ReadsAnnounced c read) f i = form.many-in s (c .variable) (form.held s m (c .variable) (c .header) (form.segment s m (c .variable) (c .header) (c .segment) f))
-place-in s m (SwapsSegment c read u) f i = form.many-in s (c .variable) (form.held s m (c .variable) (c .header) (form.segment s m (c .variable) (c .header) (c .segment) (form.held-copy s m u c f)))
-place-in s m (ReadsSegmentAgain c) f i = form.many-in s (c .variable) (form.held s m (c .variable) (c .header) (form.segment s m (c .variable) (c .header) (c .segment) f))
-place-in s m (ReadsHeader c u) f i = form.many-in s (c .variable) (form.held s m (c .variable) (c .header) (form.segment s m (c .variable) (c .header) (c .segment) (form.held-copy s m u c f)))
+place-in s m (ReadsSegment c) f i = form.many-in s (c .variable)
+    (form.held s m (c .variable) (c .header) (form.segment s m (c .variable) (c .header) (c .segment) f))
+place-in s m (ReadsAnnounced c read) f i = form.many-in s (c .variable)
+    (form.held s m (c .variable) (c .header) (form.segment s m (c .variable) (c .header) (c .segment) f))
+place-in s m (SwapsSegment c read u) f i = form.many-in s (c .variable)
+    (form.held s m (c .variable) (c .header) (form.segment s m (c .variable) (c .header) (c .segment) (form.held-copy s m u c f)))
+place-in s m (ReadsSegmentAgain c) f i = form.many-in s (c .variable)
+    (form.held s m (c .variable) (c .header) (form.segment s m (c .variable) (c .header) (c .segment) f))
+place-in s m (ReadsHeader c u) f i = form.many-in s (c .variable)
+    (form.held s m (c .variable) (c .header) (form.segment s m (c .variable) (c .header) (c .segment) (form.held-copy s m u c f)))
 
 -- what both tell of a place
 pub record Alike (x : ℕ) (place : Place) (stand : Stand) : Type 0 where
@@ -131,13 +136,15 @@ link : (k : Kind) (s : Settings) → Sized s → (p x : ℕ) (vars : ℕ → Var
 link One s z p x vars rows sequences q words pn xt M H f I stand S i P B =
     link-one s z p x (vars x) rows sequences q words xt H (M .word x xt) (form.value-in s q f 0 (omega arith)) (q .place) stand S i P B
 link Many s z p x vars rows sequences q words pn xt M H f I stand S i P B =
-    link-many s z p x (vars x) rows sequences q words pn xt H (M .header x xt) (M .segment x xt) (M .row) I (q .place) stand S i (form.clauses s q f .place) P B
+    link-many s z p x (vars x) rows sequences q words pn xt H (M .header x xt) (M .segment x xt) (M .row) I (q .place) stand S i
+    (form.clauses s q f .place) P B
 
 wrote-none : (k : Kind) (s : Settings) (p x : ℕ) (words : List ℕ) → WroteK k s p x none words words
 wrote-none One s p x words = refl
 wrote-none Many s p x words = refl
 
-first-stands : (k : Kind) (b : ℕ) (call : Call) (new got : List ℕ) → StandsK k b (variableOf call) new got (firstPlace k call) (firstOf call (at-place new))
+first-stands : (k : Kind) (b : ℕ) (call : Call) (new got : List ℕ) →
+    StandsK k b (variableOf call) new got (firstPlace k call) (firstOf call (at-place new))
 first-stands One b (Load x) new got = one-load
 first-stands One b (Validate x) new got = one-validate
 first-stands One b (Store x) new got = one-store
@@ -183,15 +190,18 @@ module _ (s : Settings) (z : Sized s) (st : State) (I : Inv (s .kind) (s .w) st)
       let resting : st .procs me .place ≡ idle = alike (s .kind) s (st .procs me) q mine .idle' (t .idle) in
       record {
         next = begun st me x (firstOf call (at-place values));
-        inv = begin-kept (s .kind) (s .w) st I me resting x call (at-place values) (has call (q .opened) (st .procs me .sequences x) (t .sequence) (mine .held .open' x));
+        inv = begin-kept (s .kind) (s .w) st I me resting x call (at-place values)
+            (has call (q .opened) (st .procs me .sequences x) (t .sequence) (mine .held .open' x));
         means = record {
           sixteen = length-set processes me (beginning s call values q) ∙ R .sixteen;
           memory = rw (change-id (st .rows) me) at
               (put-kind (s .kind) s z (st .vars) (st .rows) words (R .memory) me x (a .mine) (t .variable) (anew me (st .vars x)) none words
               (wrote-none (s .kind) s me x words) refl refl);
-          process = put-process x (beginning s call values q) (record { at = x; place = firstOf call (at-place values); sequences = st .procs me .sequences }) (a .mine)
+          process = put-process x (beginning s call values q)
+              (record { at = x; place = firstOf call (at-place values); sequences = st .procs me .sequences }) (a .mine)
               (record { stands = first-stands (s .kind) (bits s) call values (q .gathered); held = mine .held });
-          as-seen = change-both (λ y a c. a ≡ c .seen) seen (st .vars) x (see me begins (seen x)) (anew me (st .vars x)) (ap (see me begins) (R .as-seen x)) (λ y n. R .as-seen y);
+          as-seen = change-both (λ y a c. a ≡ c .seen) seen (st .vars) x (see me begins (seen x)) (anew me (st .vars x))
+              (ap (see me begins) (R .as-seen x)) (λ y n. R .as-seen y);
         };
       }
 
@@ -216,9 +226,12 @@ module _ (s : Settings) (z : Sized s) (st : State) (I : Inv (s .kind) (s .w) st)
     pub inv : Inv (s .kind) (s .w) next
     pub means : BoardMeans s next (a .0 .board .processes) (a .1) (sees-step (a .0 .answer))
     pub right : RightAnswer (width (s .kind) (s .w)) me (sees-step (a .0 .answer) (variableAt (q .place))) (a .0 .answer) (at-place (a .0 .values))
-    pub counts : taken (a .0 .answer) ≡ true → Counts me (sees-step (a .0 .answer) (variableAt (q .place))) (noteAt (q .place) (newValues q) (a .0 .answer))
+    pub counts : taken (a .0 .answer) ≡ true → Counts me (sees-step (a .0 .answer) (variableAt (q .place)))
+        (noteAt (q .place) (newValues q) (a .0 .answer))
 
-  pub step-follows : Accepted board me words → isIdle (q .place) ≡ false → (taken (processStep s q me words .0 .answer) ≡ true → inSequence (q .place) ≡ true → length (seen (variableAt (q .place)) .since me) + 2 ≤ tagLimit (bits s)) →
+  pub step-follows : Accepted board me words → isIdle (q .place) ≡ false →
+      (taken (processStep s q me words .0 .answer) ≡ true → inSequence (q .place) ≡ true →
+      length (seen (variableAt (q .place)) .since me) + 2 ≤ tagLimit (bits s)) →
       StepFollows (stepped board me (processStep s q me words))
   unfolding processStep
   step-follows t still B = follows

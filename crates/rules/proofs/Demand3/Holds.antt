@@ -58,7 +58,8 @@ record Stepped (s : Settings) (state : State) (seen : ℕ → Seen) (me : ℕ) :
 -- a step that is taken is in a short sequence
 abbrev ShortStep : Settings → State → (ℕ → Seen) → ℕ → Type 0
 ShortStep s state seen me =
-    taken (answerOf (step me) state) ≡ true → inSequence (placeOf state me) ≡ true → length (seen (variableAt (placeOf state me)) .since me) ≤ mostStores (bits s)
+    taken (answerOf (step me) state) ≡ true → inSequence (placeOf state me) ≡ true →
+    length (seen (variableAt (placeOf state me)) .since me) ≤ mostStores (bits s)
 
 abbrev stateOf : Settings → List Process → List ℕ → State
 stateOf s processes words = record { board = record { settings = s; processes = processes }; words = words }
@@ -91,7 +92,8 @@ module _ (s : Settings) (z : Sized s) where
         let F : Follows (stepRule (state .board) me words) = step-by B in
         record { stood = record { machine = F .next; inv = F .inv; means = F .means }; right = F .right; counts = F .counts }
 
-  module _ (processes : List Process) (words : List ℕ) (seen : ℕ → Seen) (me : ℕ) (call : Call) (values : List ℕ) (S : Stood s (stateOf s processes words) seen) where
+  module _ (processes : List Process) (words : List ℕ) (seen : ℕ → Seen) (me : ℕ) (call : Call) (values : List ℕ)
+      (S : Stood s (stateOf s processes words) seen) where
     abbrev state′ : State
     state′ = stateOf s processes words
 
@@ -110,7 +112,8 @@ module _ (s : Settings) (z : Sized s) where
   as-parts : (state : State) → Shaped s (state .board) → state ≡ stateOf s (state .board .processes) (state .words)
   as-parts state h = λ i. record { board = record { settings = h .settings i; processes = state .board .processes }; words = state .words }
 
-  step-any : (state : State) (seen : ℕ → Seen) (me : ℕ) → Shaped s (state .board) → Stood s state seen → ShortStep s state seen me → Stepped s state seen me
+  step-any : (state : State) (seen : ℕ → Seen) (me : ℕ) → Shaped s (state .board) → Stood s state seen → ShortStep s state seen me →
+      Stepped s state seen me
   step-any state seen me h = subst (λ (u : State). Stood s u seen → ShortStep s u seen me → Stepped s u seen me) (sym (as-parts state h))
       (λ S B. step-of (state .board .processes) (state .words) seen me S B)
 
@@ -133,7 +136,8 @@ module _ (s : Settings) (z : Sized s) where
     right-along : (events : List Event) (me : ℕ) → AllShort (fresh s lent) (bits s) (step me ∷ events) →
         Stepped s (run (fresh s lent) events) (seenIn (fresh s lent) events) me
     unfolding AllShort
-    right-along events me A = step-any (run (fresh s lent) events) (seenIn (fresh s lent) events) me (run-shaped s lent f events) (along events (A .1)) (A .0)
+    right-along events me A = step-any (run (fresh s lent) events) (seenIn (fresh s lent) events) me (run-shaped s lent f events)
+        (along events (A .1)) (A .0)
 
 -- W is 1 for kind `one`
 width-is : (s : Settings) → settingsFit s ≡ true → width (s .kind) (s .w) ≡ s .w
@@ -150,7 +154,8 @@ unfolding seenIn
 right-in-window t A =
     let s : Settings = t .settings in
     let f : sizesCheck s (length (t .lent)) ≡ Fine = ready-fine s (t .lent) (t .ready) in
-    rw (width-is s (stands s (t .lent) f .settings)) at (right-along s (sized s (stands s (t .lent) f .settings)) (t .lent) f (t .events) (t .me) A .right)
+    rw (width-is s (stands s (t .lent) f .settings)) at (right-along s (sized s (stands s (t .lent) f .settings)) (t .lent) f
+    (t .events) (t .me) A .right)
 
 counts-in-window : (t : Turn) → InWindow t → taken (answer t) ≡ true → Counts (t .me) (seen-of t) (noteOf (step (t .me)) (before t))
 unfolding seenIn
@@ -192,8 +197,10 @@ more p (stores new false) o = omega arith
 grows : (event : Event) (state : State) (seen : ℕ → Seen) (y : ℕ) → seen y .total ≤ watch event state seen y .total
 grows event state seen y = by (taken (answerOf event state))
   where
-    by : (t : Bool) → seen y .total ≤ cond t (change seen (variableIn event state) (see (processOf event) (noteOf event state) (seen (variableIn event state)))) seen y .total
-    by true = change-all (λ j o. seen j .total ≤ o .total) seen (variableIn event state) (see (processOf event) (noteOf event state) (seen (variableIn event state)))
+    by : (t : Bool) → seen y .total ≤ cond t (change seen (variableIn event state)
+        (see (processOf event) (noteOf event state) (seen (variableIn event state)))) seen y .total
+    by true = change-all (λ j o. seen j .total ≤ o .total) seen (variableIn event state)
+        (see (processOf event) (noteOf event state) (seen (variableIn event state)))
         (more (processOf event) (noteOf event state) (seen (variableIn event state))) (λ j n. omega arith) y
     by false = omega arith
 
@@ -222,7 +229,8 @@ module _ (s : Settings) (z : Sized s) where
           let like = alike (s .kind) s (st .procs me) (processAt (state .board) me) mine in
           rw (like .variable busy, S .means .as-seen (st .procs me .at))
           (fewK (s .kind) (s .w) me (st .vars (st .procs me .at)) (st .rows me) (st .procs me .sequences (st .procs me .at)) (st .procs me .place)
-          (S .inv .var (st .procs me .at)) (rw (eq-eqb (st .procs me .at) (st .procs me .at) refl) at (S .inv .pair me (st .procs me .at))) (like .sequence ∙ i))
+          (S .inv .var (st .procs me .at)) (rw (eq-eqb (st .procs me .at) (st .procs me .at) refl) at
+          (S .inv .pair me (st .procs me .at))) (like .sequence ∙ i))
 
   -- .. of a variable below T
   step-variable : (state : State) (me : ℕ) → Shaped s (state .board) → taken (answerOf (step me) state) ≡ true → variableAt (placeOf state me) < s .t
@@ -243,7 +251,12 @@ module _ (s : Settings) (z : Sized s) where
   unfolding seenIn AllShort
   short-of-few lent f [] F = tt
   short-of-few lent f (begin me call values ∷ events) F =
-      short-of-few lent f events (λ x l. omega (arith, F x l, grows (begin me call values) (run (fresh s lent) events) (seenIn (fresh s lent) events) x))
+      short-of-few lent f events (λ x l. omega (
+        arith,
+        F x l,
+        grows (begin me call values) (run (fresh s lent) events)
+            (seenIn (fresh s lent) events) x,
+      ))
   short-of-few lent f (step me ∷ events) F =
       let state : State = run (fresh s lent) events in
       let G : (x : ℕ) → x < s .t → seenIn (fresh s lent) events x .total ≤ mostStores (bits s) =

@@ -47,7 +47,8 @@ module _ (k : Kind) (s : Settings) (sequences : ℕ → Sequence) (keep : List �
       same One h l = h l
       same Many h l = h l
 
-  pub held-opened : x < 16 → (w : ℕ) (q : Sequence) → Keeps k s w q → q .opened ≡ true → Held k s (change sequences x q) (set keep x w) (withOpen opened x)
+  pub held-opened : x < 16 → (w : ℕ) (q : Sequence) → Keeps k s w q → q .opened ≡ true →
+      Held k s (change sequences x q) (set keep x w) (withOpen opened x)
   held-opened l w q h o = record {
     sixteen = length-set keep x w ∙ H .sixteen;
     kept = change-all (λ y u. y < s .t → Keeps k s (getD (set keep x w) y 0) u) sequences x q

@@ -87,12 +87,15 @@ module _ (p : ℕ) (v : Var) (rows : ℕ → ℕ → ℕ) (s : Sequence) (I : Va
     where
       by : (t : Bool) → same (v .header) (stamp (s .kept) (s .kept-value)) ≡ t → t ≡ eqb (v .header .version) (s .kept)
       by true e = sym (eq-eqb (v .header .version) (s .kept) (same-true (v .header) (stamp (s .kept) (s .kept-value)) e .0))
-      by false e = sym (ne-eqb (v .header .version) (s .kept) (λ k. same-false (v .header) (stamp (s .kept) (s .kept-value)) e k (sym (O .whole (sym k)))))
+      by false e = sym (ne-eqb (v .header .version) (s .kept)
+          (λ k. same-false (v .header) (stamp (s .kept) (s .kept-value)) e k (sym (O .whole (sym k)))))
 
   missed : Opened₁ p v s → same (v .header) (stamp (s .kept) (s .kept-value)) ≡ false → Another p (v .seen .since p)
-  missed O e = some-other p (v .seen .since p) (O .others) (omega (arith, O .count, O .old, eqb-false (v .header .version) (s .kept) (sym (test O) ∙ e)))
+  missed O e = some-other p (v .seen .since p) (O .others) (omega
+      (arith, O .count, O .old, eqb-false (v .header .version) (s .kept) (sym (test O) ∙ e)))
 
-  one-storeReads : (new : ℕ → ℕ) → Pair₁ p v (rows p) s (storeReads new) → (t : Bool) → same (v .header) (stamp (s .kept) (s .kept-value)) ≡ t → Fine₁ p v (oneAt p v rows s t new)
+  one-storeReads : (new : ℕ → ℕ) → Pair₁ p v (rows p) s (storeReads new) → (t : Bool) →
+      same (v .header) (stamp (s .kept) (s .kept-value)) ≡ t → Fine₁ p v (oneAt p v rows s t new)
   one-storeReads new P true e =
       let O : Opened₁ p v s = P .seq (P .doing) in
       let f : v .seen .atomic .valid p ≡ true = O .valid ∙ sym (test O) ∙ e in
@@ -119,7 +122,12 @@ module _ (p : ℕ) (v : Var) (rows : ℕ → ℕ → ℕ) (s : Sequence) (I : Va
   fine₁ idle P = record { inv = I; rely = λ r n. inl (record { header = refl; since = refl; valid = refl }); pair = P; right = tt; counts = tt }
   fine₁ loadReads P = record {
     inv = record { now = I .now; sum = I .sum };
-    rely = λ r n. inl (record { header = refl; since = change-other (v .seen .since) p [] r n; valid = change-other (v .seen .atomic .valid) p true r n });
+    rely = λ r n. inl (record {
+      header = refl;
+      since = change-other (v .seen .since) p [] r n;
+      valid = change-other
+          (v .seen .atomic .valid) p true r n;
+    });
     pair = record {
       seq = λ o. record {
         old = omega arith;
@@ -131,7 +139,16 @@ module _ (p : ℕ) (v : Var) (rows : ℕ → ℕ → ℕ) (s : Sequence) (I : Va
       doing = tt;
     };
     counts = tt;
-    right = (change-same (v .seen .since) p [], (v .seen .atomic .current, change-same (v .seen .due) p (content (v .seen .atomic .current)), each (λ i. i < 1 → v .header .value ≡ v .seen .atomic .current i) 0 (λ _. I .now) (λ j n l. absurd (omega (arith, n)))));
+    right = (
+      change-same (v .seen .since) p [],
+      (
+        v .seen .atomic .current,
+        change-same (v .seen .due) p
+            (content (v .seen .atomic .current)),
+        each (λ i. i < 1 → v .header .value ≡ v .seen .atomic .current i) 0 (λ _. I .now)
+            (λ j n l. absurd (omega (arith, n))),
+      ),
+    );
   }
   fine₁ validateReads P =
       let O : Opened₁ p v s = P .seq (P .doing) in

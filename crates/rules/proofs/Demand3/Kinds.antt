@@ -40,7 +40,8 @@ pub record FineK (k : Kind) (W : ℕ) (p : ℕ) (v : Var) (o : Out) : Type 0 whe
   pub right : Right (width k W) p (o .var .seen) (o .told)
   pub counts : Counts p (o .var .seen) (o .note)
 
-pub stableK : (k : Kind) (W : ℕ) (p : ℕ) (v v′ : Var) → VarInvK k W v → VarInvK k W v′ → RelyK k W p v v′ → (s : Sequence) (row : ℕ → ℕ) (pl : Place) → PairK k W p v row s pl → PairK k W p v′ row s pl
+pub stableK : (k : Kind) (W : ℕ) (p : ℕ) (v v′ : Var) → VarInvK k W v → VarInvK k W v′ → RelyK k W p v v′ →
+    (s : Sequence) (row : ℕ → ℕ) (pl : Place) → PairK k W p v row s pl → PairK k W p v′ row s pl
 stableK One W p v v′ I I′ R s row pl P = stable₁ p v v′ s row pl R P
 stableK Many W p v v′ I I′ R s row pl P = stable W p v v′ I I′ R s row pl P
 
@@ -63,7 +64,8 @@ fineK One W pos p v rows ss pls I all =
     record { inv = F .inv; rely = F .rely; pair = F .pair; right = F .right; counts = F .counts }
 fineK Many W pos p v rows ss pls I all =
     let q : ℕ = v .header .value in
-    let F : Fine W p v (acts Many W p v rows (ss p) (pls p)) = step-fine W p v rows (ss p) I pos (told-of W q v (rows q) (ss q) (pls q) (all q) refl) (pls p) (all p) in
+    let F : Fine W p v (acts Many W p v rows (ss p) (pls p)) = step-fine W p v rows (ss p) I pos
+    (told-of W q v (rows q) (ss q) (pls q) (all q) refl) (pls p) (all p) in
     record { inv = F .inv; rely = F .rely; pair = F .pair; right = F .right; counts = F .counts }
 
 -- an idle process asks nothing of its row
@@ -101,7 +103,8 @@ module _ (W p : ℕ) (v : Var) (row : ℕ → ℕ) (s : Sequence) (P : Pair W p 
   beginW (Validate x) new e = plain validateReads refl (λ w b. b) e
   beginW (Store x) new e = plain (storeReads new) refl (λ w b. b) e
 
-pub beginK : (k : Kind) (W : ℕ) (p : ℕ) (v : Var) (row : ℕ → ℕ) (s : Sequence) → PairK k W p v row s idle → (c : Call) (new : ℕ → ℕ) → Has c s → PairK k W p v row s (firstOf c new)
+pub beginK : (k : Kind) (W : ℕ) (p : ℕ) (v : Var) (row : ℕ → ℕ) (s : Sequence) → PairK k W p v row s idle →
+    (c : Call) (new : ℕ → ℕ) → Has c s → PairK k W p v row s (firstOf c new)
 beginK One W p v row s P = begin₁ p v row s P
 beginK Many W p v row s P = beginW W p v row s P
 
@@ -134,7 +137,8 @@ openW W p v row s (announces new h i) D e = D .1 .open'
 openW W p v row s (swapsHeader new h) D e = D .open'
 openW W p v row s (copies a h i ph) D e = D .0 .open'
 
-pub fewK : (k : Kind) (W : ℕ) (p : ℕ) (v : Var) (row : ℕ → ℕ) (s : Sequence) (pl : Place) → VarInvK k W v → PairK k W p v row s pl → past pl ≡ true → length (v .seen .since p) ≤ v .seen .total
+pub fewK : (k : Kind) (W : ℕ) (p : ℕ) (v : Var) (row : ℕ → ℕ) (s : Sequence) (pl : Place) → VarInvK k W v → PairK k W p v row s pl →
+    past pl ≡ true → length (v .seen .since p) ≤ v .seen .total
 fewK One W p v row s pl I P e = omega (arith, P .seq (open₁ p v row s pl (P .doing) e) .count, I .sum)
 fewK Many W p v row s pl I P e = omega (arith, P .seq (openW W p v row s pl (P .doing) e) .count, I .sum)
 

@@ -81,7 +81,8 @@ says-sure W l true = says-yes
 says-sure W l false = says-no
 
 -- a step of the board by process p from a place, at variable x, is the machine's step c
-pub record Linked (k : Kind) (s : Settings) (p x : ℕ) (place : Place) (q : Process) (words : List ℕ) (sequences : ℕ → Sequence) (r : Step) (c : Core) : Type 0 where
+pub record Linked (k : Kind) (s : Settings) (p x : ℕ) (place : Place) (q : Process) (words : List ℕ) (sequences : ℕ → Sequence)
+    (r : Step) (c : Core) : Type 0 where
   pub stands : StandsK k (bits s) x (r .0 .process .values) (r .0 .process .gathered) (r .0 .process .place) (c .place)
   pub held : Held k s (change sequences x (c .sequence)) (r .0 .process .keep) (r .0 .process .opened)
   pub wrote : WroteK k s p x (c .put) words (r .1)

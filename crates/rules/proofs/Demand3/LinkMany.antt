@@ -61,7 +61,8 @@ module _ (s : Settings) (z : Sized s) (p x : ℕ) (v : Var) (rows : ℕ → ℕ 
   -- the board's tests are the machine's
   tag-agrees : (pl : Stand) → Opened (s .w) p v (sequences x) pl → length (v .seen .since p) + 2 ≤ tagLimit (bits s) →
       eqb (tagOf (bits s) (headerOf s x words)) (keptOf x q) ≡ eqb (v .header .version) (sequences x .kept)
-  tag-agrees pl O B = rw (MH .tag, H .kept x xt) (tag-test (tagLimit (bits s)) (sequences x .kept) (v .header .version) (O .old) (omega (arith, O .count)))
+  tag-agrees pl O B = rw (MH .tag, H .kept x xt) (tag-test (tagLimit (bits s)) (sequences x .kept) (v .header .version) (O .old)
+      (omega (arith, O .count)))
 
   -- the row is written, and the next place or the header's turn comes
   link-announce : (header i : ℕ) (h : Versioned) → Means (bits s) header h → i < s .w → (more : Bool) → ltb (i + 1) (s .w) ≡ more →
@@ -87,20 +88,42 @@ module _ (s : Settings) (z : Sized s) (p x : ℕ) (v : Var) (rows : ℕ → ℕ 
   -- Copy's end of a segment, with the same header: a segment more?
   link-on : (header i : ℕ) (h : Versioned) (a : Aim) → Means (bits s) header h → Gathered (q .gathered) a → i < s .w → (u : ℕ) (more : Bool) →
       ltb (i + 1) (s .w) ≡ more →
-      Linked Many s p x (ReadsHeader (copyAt x header i a) u) q words sequences (copyOn s (copyAt x header i a) (saving (copyAt x header i a) u q), words)
+      Linked Many s p x (ReadsHeader (copyAt x header i a) u) q words sequences
+      (copyOn s (copyAt x header i a) (saving (copyAt x header i a) u q), words)
       (onHeader (s .w) p v rows (sequences x) true more a h i u)
   link-on header i h (load g) M G l u true e =
-      rw e (record { stands = at-segment {a = load (change g i u)} M (gathered-more (q .gathered) g i u (omega (arith, z .w-most)) G); held = same-held; wrote = refl; says = says-busy; note = refl })
+      rw e (record {
+        stands = at-segment {a = load (change g i u)} M
+            (gathered-more (q .gathered) g i u (omega (arith, z .w-most)) G);
+        held = same-held;
+        wrote = refl;
+        says = says-busy;
+        note = refl;
+      })
   link-on header i h store M G l u true e = rw e (record { stands = at-segment {a = store} M tt; held = same-held; wrote = refl; says = says-busy; note = refl })
   link-on header i h (load g) M G l u false e =
-      rw e (record { stands = at-idle; held = same-held; wrote = refl; says = says-values (λ j k. gathered-more (q .gathered) g i u (omega (arith, z .w-most)) G .1 j); note = refl })
+      rw e (record {
+        stands = at-idle;
+        held = same-held;
+        wrote = refl;
+        says = says-values
+            (λ j k. gathered-more (q .gathered) g i u (omega (arith, z .w-most)) G .1 j);
+        note = refl;
+      })
   link-on header i h store M G l u false e = rw e (record { stands = at-idle; held = shut-held; wrote = refl; says = says-yes; note = refl })
 
   -- with another header
   link-cut-short : (header i : ℕ) (h : Versioned) (a : Aim) → Gathered (q .gathered) a → (u : ℕ) (more : Bool) →
       Linked Many s p x (ReadsHeader (copyAt x header i a) u) q words sequences (copyCutShort s (copyAt x header i a) (headerOf s x words) q, words)
       (onHeader (s .w) p v rows (sequences x) false more a h i u)
-  link-cut-short header i h (load g) G u more = record { stands = at-idle; held = same-held; wrote = refl; says = says-witness (MH .value); note = refl }
+  link-cut-short header i h (load g) G u more = record {
+    stands = at-idle;
+    held = same-held;
+    wrote = refl;
+    says = says-witness
+        (MH .value);
+    note = refl;
+  }
   link-cut-short header i h store G u more = record { stands = at-idle; held = shut-held; wrote = refl; says = says-yes; note = refl }
 
   module _ (I : VarInv (s .w) v) where
@@ -128,7 +151,8 @@ module _ (s : Settings) (z : Sized s) (p x : ℕ) (v : Var) (rows : ℕ → ℕ 
       stands = at-idle;
       held = same-held;
       wrote = refl;
-      says = rw (← (tag-agrees validateReads (P .seq (P .doing)) (B refl))) (says-sure (s .w) noValues (eqb (tagOf (bits s) (headerOf s x words)) (keptOf x q)));
+      says = rw (← (tag-agrees validateReads (P .seq (P .doing)) (B refl)))
+          (says-sure (s .w) noValues (eqb (tagOf (bits s) (headerOf s x words)) (keptOf x q)));
       note = refl;
     }
     link-many place stand at-store i f P B =
@@ -139,7 +163,8 @@ module _ (s : Settings) (z : Sized s) (p x : ℕ) (v : Var) (rows : ℕ → ℕ 
         (eqb (tagOf (bits s) (headerOf s x words)) (keptOf x q)) _ _
         (λ e. rw (sym T ∙ e) (record { stands = at-announce MH; held = same-held; wrote = refl; says = says-busy; note = refl }))
         (λ e. rw (sym T ∙ e) (record { stands = at-idle; held = shut-held; wrote = refl; says = says-no; note = refl }))
-    link-many place stand (at-announce {header = header} {i = i} {h = h} M) n f P B = link-announce header i h M (P .doing .0) (ltb (i + 1) (s .w)) refl
+    link-many place stand (at-announce {header = header} {i = i} {h = h} M) n f P B = link-announce header i h M (P .doing .0)
+        (ltb (i + 1) (s .w)) refl
     link-many place stand (at-swap {header = header} {h = h} M) n f P B =
         let O : Opened (s .w) p v (sequences x) (swapsHeader (at-place (q .values)) h) = P .seq (P .doing .open') in
         let T : eqb (headerOf s x words) header ≡ same (v .header) h =
@@ -158,8 +183,10 @@ module _ (s : Settings) (z : Sized s) (p x : ℕ) (v : Var) (rows : ℕ → ℕ 
     link-many place stand (at-segment {header = header} {i = i} {h = h} {a = a} M G) n f P B =
         let l : i < s .w = P .doing .0 .in' in
         let w : v .header .version + 2 ≤ h .version + tagLimit (bits s) = window a h i readsSegment P (B refl) in
-        let T : eqb (tagOf (bits s) (segmentOf s x i words)) (previousTag (bits s) (tagOf (bits s) header)) ≡ eqb (suc (v .segment i .version)) (h .version) =
-        rw (MS i l .tag, M .tag) (previous-test (bits s) (h .version) (v .segment i .version) (omega (arith, I .lo i l, P .doing .0 .old)) (omega (arith, I .hi i l))) in
+        let T : eqb (tagOf (bits s) (segmentOf s x i words)) (previousTag (bits s) (tagOf (bits s) header)) ≡ eqb
+        (suc (v .segment i .version)) (h .version) =
+        rw (MS i l .tag, M .tag) (previous-test (bits s) (h .version) (v .segment i .version)
+        (omega (arith, I .lo i l, P .doing .0 .old)) (omega (arith, I .hi i l))) in
         branch (λ (r : Step). Linked Many s p x (ReadsSegment (copyAt x header i a)) q words sequences r
         (onSegment (s .w) p v rows (sequences x) (eqb (suc (v .segment i .version)) (h .version)) a h i))
         (eqb (tagOf (bits s) (segmentOf s x i words)) (previousTag (bits s) (tagOf (bits s) header))) _ _
@@ -172,7 +199,8 @@ module _ (s : Settings) (z : Sized s) (p x : ℕ) (v : Var) (rows : ℕ → ℕ 
         MR (valueOf (bits s) header) names i l ∙ ap (λ (r : ℕ). rows r i) (M .value) in
         record {
           stands = subst (λ (u : ℕ). Stands (bits s) x (q .values) (q .gathered)
-              (SwapsSegment (copyAt x header i a) w (announcedOf s (valueOf (bits s) header) i words)) (copies a h i (swapsSegment y u))) same-row (at-segment-swap M G My);
+              (SwapsSegment (copyAt x header i a) w (announcedOf s (valueOf (bits s) header) i words))
+              (copies a h i (swapsSegment y u))) same-row (at-segment-swap M G My);
           held = same-held;
           wrote = refl;
           says = says-busy;
@@ -183,7 +211,8 @@ module _ (s : Settings) (z : Sized s) (p x : ℕ) (v : Var) (rows : ℕ → ℕ 
         let r : v .header .version + 2 ≤ h .version + tagLimit (bits s) = window a h i (swapsSegment y u) P (B refl) in
         let small : u < valueLimit (bits s) = form.held-value s (q .opened) u (copyAt x header i a) f in
         let T : eqb (segmentOf s x i words) w ≡ same (v .segment i) y =
-        word-test (bits s) (MS i l) My (omega (arith, I .lo i l, P .doing .0 .old, P .doing .1 .0 .prev)) (omega (arith, I .hi i l, P .doing .1 .0 .prev)) in
+        word-test (bits s) (MS i l) My (omega (arith, I .lo i l, P .doing .0 .old, P .doing .1 .0 .prev))
+        (omega (arith, I .hi i l, P .doing .1 .0 .prev)) in
         branch (λ (r : Step). Linked Many s p x (SwapsSegment (copyAt x header i a) w u) q words sequences r
         (onSegmentSwap (s .w) p v rows (sequences x) (same (v .segment i) y) a h i u))
         (eqb (segmentOf s x i words) w) _ _

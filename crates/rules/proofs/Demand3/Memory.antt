@@ -49,12 +49,14 @@ abbrev pub WroteK : Kind → Settings → ℕ → ℕ → Put → List ℕ → L
 WroteK One s p x put words words′ = WroteOne s p x put words words′
 WroteK Many s p x put words words′ = Wrote s p x put words words′
 
-module _ (s : Settings) (z : Sized s) (vars : ℕ → Var) (rows : ℕ → ℕ → ℕ) (words : List ℕ) (M : Mem s vars rows words) (p x : ℕ) (pn : p < s .n) (xt : x < s .t) where
+module _ (s : Settings) (z : Sized s) (vars : ℕ → Var) (rows : ℕ → ℕ → ℕ) (words : List ℕ) (M : Mem s vars rows words) (p x : ℕ)
+    (pn : p < s .n) (xt : x < s .t) where
   -- what stays where one word is set
   header-stays : (d n : ℕ) (y : ℕ) → y < s .t → headerAt s y ≢ d → Means (bits s) (headerOf s y (set words d n)) (vars y .header)
   header-stays d n y l q = rw (getD-set-other words d (headerAt s y) n 0 q) (M .header y l)
 
-  segment-stays : (d n : ℕ) (y : ℕ) → y < s .t → (j : ℕ) → j < s .w → segmentAt s y j ≢ d → Means (bits s) (segmentOf s y j (set words d n)) (vars y .segment j)
+  segment-stays : (d n : ℕ) (y : ℕ) → y < s .t → (j : ℕ) → j < s .w → segmentAt s y j ≢ d →
+      Means (bits s) (segmentOf s y j (set words d n)) (vars y .segment j)
   segment-stays d n y l j lj q = rw (getD-set-other words d (segmentAt s y j) n 0 q) (M .segment y l j lj)
 
   row-stays : (d n : ℕ) (q : ℕ) → q < s .n → (j : ℕ) → j < s .w → announceAt s q j ≢ d → announcedOf s q j (set words d n) ≡ rows q j
@@ -73,7 +75,8 @@ module _ (s : Settings) (z : Sized s) (vars : ℕ → Var) (rows : ℕ → ℕ �
     segments : (words′ : List ℕ) → ((j : ℕ) → j < s .w → Means (bits s) (segmentOf s x j words′) (v′ .segment j)) →
         ((y : ℕ) → y < s .t → y ≢ x → (j : ℕ) → j < s .w → Means (bits s) (segmentOf s y j words′) (vars y .segment j)) →
         (y : ℕ) → y < s .t → (j : ℕ) → j < s .w → Means (bits s) (segmentOf s y j words′) (change vars x v′ y .segment j)
-    segments words′ h o = change-all (λ y v. y < s .t → (j : ℕ) → j < s .w → Means (bits s) (segmentOf s y j words′) (v .segment j)) vars x v′ (λ l. h) (λ y n l. o y l n)
+    segments words′ h o = change-all (λ y v. y < s .t → (j : ℕ) → j < s .w →
+        Means (bits s) (segmentOf s y j words′) (v .segment j)) vars x v′ (λ l. h) (λ y n l. o y l n)
 
     same-rows : (words′ : List ℕ) → ((q : ℕ) → q < s .n → (j : ℕ) → j < s .w → announcedOf s q j words′ ≡ rows q j) →
         (q : ℕ) → q < s .n → (j : ℕ) → j < s .w → announcedOf s q j words′ ≡ change rows p (rows p) q j

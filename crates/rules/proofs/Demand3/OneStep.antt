@@ -59,7 +59,8 @@ alike W r v = record {
 }
 
 -- the same sequence, seen from another place
-pub reseat : (W p : ℕ) (v : Var) (s : Sequence) (pl pl′ : Place) → (loading pl′ ≡ false → loading pl ≡ false) → (storing pl′ ≡ false → storing pl ≡ false) →
+pub reseat : (W p : ℕ) (v : Var) (s : Sequence) (pl pl′ : Place) → (loading pl′ ≡ false → loading pl ≡ false) →
+    (storing pl′ ≡ false → storing pl ≡ false) →
     Opened W p v s pl → Opened W p v s pl′
 reseat W p v s pl pl′ l t O = record {
   old = O .old;
@@ -127,7 +128,13 @@ module _ (W p : ℕ) (v : Var) (rows : ℕ → ℕ → ℕ) (s : Sequence) (I : 
       (record { prev = eqb-true (suc (v .segment i .version)) (h .version) e; kin = I .kin i (P .doing .0 .in') }))
   at-readsSegment a h i P false e =
       let l : i < W = P .doing .0 .in' in
-      let k : h .version ≤ v .segment i .version = omega (arith, I .lo i l, P .doing .0 .old, eqb-false (suc (v .segment i .version)) (h .version) e) in
+      let k : h .version ≤ v .segment i .version = omega (
+        arith,
+        I .lo i l,
+        P .doing .0 .old,
+        eqb-false
+            (suc (v .segment i .version)) (h .version) e,
+      ) in
       still (copies a h i (readsHeader (v .segment i .value)))
       (recopy W p v (rows p) s a h i readsSegment (readsHeader (v .segment i .value)) P
       (record { here' = k; read = v .segment i .version; lo = k; hi = I .hi i l; kin = I .kin i l }))
@@ -144,7 +151,8 @@ module _ (W p : ℕ) (v : Var) (rows : ℕ → ℕ → ℕ) (s : Sequence) (I : 
           let t : rows (v .header .value) i ≡ v .stored (v .header .version) i = told i l (omega (arith, I .lo i l, P .doing .0 .old)) in
           cc (P .doing .0 .who, I .who)
 
-  at-readsAgain : (a : Aim) (h : Versioned) (i : ℕ) → Pair W p v (rows p) s (copies a h i readsAgain) → Fine W p v (goesOut W p v rows s (copies a h i (readsHeader (v .segment i .value))))
+  at-readsAgain : (a : Aim) (h : Versioned) (i : ℕ) → Pair W p v (rows p) s (copies a h i readsAgain) →
+      Fine W p v (goesOut W p v rows s (copies a h i (readsHeader (v .segment i .value))))
   at-readsAgain a h i P =
       let l : i < W = P .doing .0 .in' in
       still (copies a h i (readsHeader (v .segment i .value)))
@@ -181,9 +189,12 @@ module _ (W p : ℕ) (v : Var) (rows : ℕ → ℕ → ℕ) (s : Sequence) (I : 
 
       inv′ : VarInv W v′
       inv′ = record {
-        lo = change-all (λ j w. j < W → v .header .version ≤ suc (w .version)) (v .segment) i (stamp (h .version) z) (λ _. omega (arith, k)) (λ j n. I .lo j);
-        hi = change-all (λ j w. j < W → w .version ≤ v .header .version) (v .segment) i (stamp (h .version) z) (λ _. omega (arith, k)) (λ j n. I .hi j);
-        kin = change-all (λ j w. j < W → w .value ≡ v .stored (w .version) j) (v .segment) i (stamp (h .version) z) (λ _. P .doing .1 .1 m) (λ j n. I .kin j);
+        lo = change-all (λ j w. j < W → v .header .version ≤ suc (w .version)) (v .segment) i (stamp (h .version) z)
+            (λ _. omega (arith, k)) (λ j n. I .lo j);
+        hi = change-all (λ j w. j < W → w .version ≤ v .header .version) (v .segment) i (stamp (h .version) z)
+            (λ _. omega (arith, k)) (λ j n. I .hi j);
+        kin = change-all (λ j w. j < W → w .value ≡ v .stored (w .version) j) (v .segment) i (stamp (h .version) z)
+            (λ _. P .doing .1 .1 m) (λ j n. I .kin j);
         who = I .who;
         now = I .now;
         sum = I .sum;
@@ -191,7 +202,8 @@ module _ (W p : ℕ) (v : Var) (rows : ℕ → ℕ → ℕ) (s : Sequence) (I : 
 
       rely′ : (r : ℕ) → Rely W r v v′
       rely′ r = record {
-        grow = change-all (λ j w. j < W → v .segment j .version ≤ w .version) (v .segment) i (stamp (h .version) z) (λ _. omega (arith, m)) (λ j n _. omega arith);
+        grow = change-all (λ j w. j < W → v .segment j .version ≤ w .version) (v .segment) i (stamp (h .version) z)
+            (λ _. omega (arith, m)) (λ j n _. omega arith);
         kept = λ w _. refl;
         names = λ w _. refl;
         owes = refl;
@@ -219,7 +231,8 @@ module _ (W p : ℕ) (v : Var) (rows : ℕ → ℕ → ℕ) (s : Sequence) (I : 
         (j : ℕ) → j < (i + 1) → change g i y j ≡ v .stored (h .version) j
     gathered g e d = change-all (λ j b. j < (i + 1) → b ≡ v .stored (h .version) j) g i y (λ _. val e) (λ j n l. d j (omega (arith, n)))
 
-  at-through : (a : Aim) (h : Versioned) (i : ℕ) (y : ℕ) → Pair W p v (rows p) s (copies a h i (readsHeader y)) → v .header .version ≡ h .version → W ≤ i + 1 →
+  at-through : (a : Aim) (h : Versioned) (i : ℕ) (y : ℕ) → Pair W p v (rows p) s (copies a h i (readsHeader y)) →
+      v .header .version ≡ h .version → W ≤ i + 1 →
       Fine W p v (throughOut W p v rows s (gather a i y))
   at-through (load g) h i y P e w =
       let D : Copying W p v (rows p) s (load g) h i = P .doing .0 in
@@ -288,19 +301,22 @@ module _ (W p : ℕ) (v : Var) (rows : ℕ → ℕ → ℕ) (s : Sequence) (I : 
     rely = λ r n. alike W r v;
     pair = record {
       seq = closed v;
-      lag = λ j l m k. same-false (v .header) h e (ap (λ (w : Versioned). w .version) (sym (P .lag j l m k))) (ap (λ (w : Versioned). w .value) (sym (P .lag j l m k)));
+      lag = λ j l m k. same-false (v .header) h e (ap (λ (w : Versioned). w .version) (sym (P .lag j l m k)))
+          (ap (λ (w : Versioned). w .value) (sym (P .lag j l m k)));
       doing = tt;
     };
     right = (P .doing .0 .aim .due, never);
     counts = tt;
   }
 
-  at-next : (a : Aim) (h : Versioned) (i : ℕ) (y : ℕ) → Pair W p v (rows p) s (copies a h i (readsHeader y)) → v .header .version ≡ h .version → i + 1 < W →
+  at-next : (a : Aim) (h : Versioned) (i : ℕ) (y : ℕ) → Pair W p v (rows p) s (copies a h i (readsHeader y)) →
+      v .header .version ≡ h .version → i + 1 < W →
       Fine W p v (goesOut W p v rows s (copies (gather a i y) h (i + 1) readsSegment))
   at-next (load g) h i y P e w =
       let D : Copying W p v (rows p) s (load g) h i = P .doing .0 in
       still (copies (load (change g i y)) h (i + 1) readsSegment) (record {
-        seq = λ o. reseat W p v s (copies (load g) h i (readsHeader y)) (copies (load (change g i y)) h (i + 1) readsSegment) (λ e. e) (λ e. e) (P .seq o);
+        seq = λ o. reseat W p v s (copies (load g) h i (readsHeader y)) (copies (load (change g i y)) h (i + 1) readsSegment)
+            (λ e. e) (λ e. e) (P .seq o);
         lag = P .lag;
         doing = (
           record {
@@ -338,7 +354,8 @@ module _ (W p : ℕ) (v : Var) (rows : ℕ → ℕ → ℕ) (s : Sequence) (I : 
   at-readsHeader a h i y P true e false f = at-through a h i y P (same-true (v .header) h e .0) (ltb-false (i + 1) W f)
   at-readsHeader a h i y P false e l f = at-cutShort a h i y P e
 
-  at-copies : (a : Aim) (h : Versioned) (i : ℕ) (ph : Phase) → Pair W p v (rows p) s (copies a h i ph) → Fine W p v (acts Many W p v rows s (copies a h i ph))
+  at-copies : (a : Aim) (h : Versioned) (i : ℕ) (ph : Phase) → Pair W p v (rows p) s (copies a h i ph) →
+      Fine W p v (acts Many W p v rows s (copies a h i ph))
   unfolding rule
   at-copies a h i readsSegment P = at-readsSegment a h i P (eqb (suc (v .segment i .version)) (h .version)) refl
   at-copies a h i (readsAnnounced y) P = at-readsAnnounced a h i y P
@@ -383,7 +400,8 @@ module _ (W p : ℕ) (v : Var) (rows : ℕ → ℕ → ℕ) (s : Sequence) (I : 
         right = (change-same (v .seen .due) p (truth false), λ _. some-other p (v .seen .since p) (O .others t) (omega (arith, O .count, O .old, n)));
       })
 
-  at-storeReads : (new : ℕ → ℕ) → Pair W p v (rows p) s (storeReads new) → (t : Bool) → eqb (v .header .version) (s .kept) ≡ t → Fine W p v (readOut W p v rows s t new)
+  at-storeReads : (new : ℕ → ℕ) → Pair W p v (rows p) s (storeReads new) → (t : Bool) → eqb (v .header .version) (s .kept) ≡ t →
+      Fine W p v (readOut W p v rows s t new)
   at-storeReads new P true e = still (announces new (v .header) 0) (record {
     seq = λ o. reseat W p v s (storeReads new) (announces new (v .header) 0) (λ e. e) (λ e. e) (P .seq o);
     lag = P .lag;
@@ -391,7 +409,8 @@ module _ (W p : ℕ) (v : Var) (rows : ℕ → ℕ → ℕ) (s : Sequence) (I : 
   })
   at-storeReads new P false e = refused new (storeReads new) P (P .doing) (eqb-false (v .header .version) (s .kept) e) refl (λ w b. b)
 
-  at-announces : (new : ℕ → ℕ) (h : Versioned) (i : ℕ) → Pair W p v (rows p) s (announces new h i) → (t : Bool) → ltb (i + 1) W ≡ t → Fine W p v (announcedOut W p v rows s t new h i)
+  at-announces : (new : ℕ → ℕ) (h : Versioned) (i : ℕ) → Pair W p v (rows p) s (announces new h i) → (t : Bool) → ltb (i + 1) W ≡ t →
+      Fine W p v (announcedOut W p v rows s t new h i)
   at-announces new h i P t e = by t e
     where
       T : Telling p v (rows p) s new h i
@@ -424,7 +443,8 @@ module _ (W p : ℕ) (v : Var) (rows : ℕ → ℕ → ℕ) (s : Sequence) (I : 
         counts = tt;
       }
 
-  at-swapsHeader : (new : ℕ → ℕ) (h : Versioned) → Pair W p v (rows p) s (swapsHeader new h) → (t : Bool) → same (v .header) h ≡ t → Fine W p v (swapOut W p v rows s t new h)
+  at-swapsHeader : (new : ℕ → ℕ) (h : Versioned) → Pair W p v (rows p) s (swapsHeader new h) → (t : Bool) → same (v .header) h ≡ t →
+      Fine W p v (swapOut W p v rows s t new h)
   at-swapsHeader new h P false e =
       let T : Telling p v (rows p) s new h W = P .doing in
       refused new (swapsHeader new h) P (T .open') (λ k. same-false (v .header) h e (omega (arith, T .from))
@@ -462,7 +482,13 @@ module _ (W p : ℕ) (v : Var) (rows : ℕ → ℕ → ℕ) (s : Sequence) (I : 
           old = omega arith;
           who = sym (change-same (v .storer) (suc (h .version)) p);
           done = λ j l. absurd (omega arith);
-          aim = record { mine = refl; from = omega arith; told = λ j l. T .told j l ∙ sym (ap (λ (g : ℕ → ℕ). g j) (change-same (v .stored) (suc (h .version)) new)); due = change-same (v .seen .due) p (truth true) };
+          aim = record {
+            mine = refl;
+            from = omega arith;
+            told = λ j l. T .told j l ∙ sym
+                (ap (λ (g : ℕ → ℕ). g j) (change-same (v .stored) (suc (h .version)) new));
+            due = change-same (v .seen .due) p (truth true);
+          };
         },
         tt,
       );

@@ -33,7 +33,8 @@ use Rattle.rules.proofs.Demand3.Change.{never}
 
 -- what holds of a step that is taken, and of every refusal, holds of every step
 pub step-cases : (P : Answered × List ℕ → Type 0) (board : Board) (me : ℕ) (words : List ℕ) →
-    (Accepted board me words → isIdle (processAt board me .place) ≡ false → P (stepped board me (processStep (board .settings) (processAt board me) me words))) →
+    (Accepted board me words → isIdle (processAt board me .place) ≡ false →
+    P (stepped board me (processStep (board .settings) (processAt board me) me words))) →
     ((r : Refusal) → P (refusing board r, words)) → P (stepRule board me words)
 unfolding stepRule
 step-cases P board me words f g = by (stepCheck board me words) refl
@@ -106,12 +107,14 @@ module _ (s : Settings) (lent : List ℕ) (ready : sizesCheck s (length lent) �
     idle-above (begin me call values ∷ events) =
         let state : State = run (fresh s lent) events in
         begin-cases (λ a. processAt (a .board) i .place ≡ Idle) (state .board) me call values (state .words)
-        (λ a b. put-other (state .board) me (state .words) (beginning (state .board .settings) call values (processAt (state .board) me)) (run-shaped events .settings) a (idle-above events))
+        (λ a b. put-other (state .board) me (state .words) (beginning (state .board .settings) call values
+        (processAt (state .board) me)) (run-shaped events .settings) a (idle-above events))
         (λ r. idle-above events)
     idle-above (step me ∷ events) =
         let state : State = run (fresh s lent) events in
         step-cases (λ a. processAt (a .0 .board) i .place ≡ Idle) (state .board) me (state .words)
-        (λ a b. put-other (state .board) me (state .words) (processStep (state .board .settings) (processAt (state .board) me) me (state .words) .0 .process) (run-shaped events .settings) a (idle-above events))
+        (λ a b. put-other (state .board) me (state .words) (processStep (state .board .settings) (processAt (state .board) me) me
+        (state .words) .0 .process) (run-shaped events .settings) a (idle-above events))
         (λ r. idle-above events)
 
   -- a process in a call may take its next step

@@ -76,7 +76,8 @@ computed =
       one-more-due = refl;
     }
 
-meets : (s : Settings) (e : s .t ≡ 1) (ready : entry.setUpRule s (replicate 4 0) .0 .start ≡ Ready) (events : List Event) (me n : ℕ) (a : Answer) (first : ℕ) →
+meets : (s : Settings) (e : s .t ≡ 1) (ready : entry.setUpRule s (replicate 4 0) .0 .start ≡ Ready) (events : List Event)
+    (me n : ℕ) (a : Answer) (first : ℕ) →
     Computed (turnOf s ready events me) n a first → n ≤ mostStores (bits s) → Meets s events me n a first
 meets s e ready events me n a first c l = record {
   ready = ready;

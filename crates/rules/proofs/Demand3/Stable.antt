@@ -55,7 +55,8 @@ module _ (W p : ℕ) (v v′ : Var) (I : VarInv W v) (I′ : VarInv W v′) (R :
     told = T .told;
   }
 
-  aimed : (s : Sequence) (row : ℕ → ℕ) (a : Aim) (h : Versioned) (i : ℕ) → h .version ≤ v .header .version → AimOk W p v row s h i a → AimOk W p v′ row s h i a
+  aimed : (s : Sequence) (row : ℕ → ℕ) (a : Aim) (h : Versioned) (i : ℕ) → h .version ≤ v .header .version →
+      AimOk W p v row s h i a → AimOk W p v′ row s h i a
   aimed s row (load g) h i o A = record {
     from = A .from;
     got = rw (R .kept (h .version) o) (A .got);

@@ -183,7 +183,8 @@ unfolding run ownSteps
 timed s lent ready [] q = rw (fresh-is s lent ready, fresh-idle 16 q) (record { sum = omega arith })
 timed s lent ready (begin me call values ∷ events) q =
     let state : State = run (fresh s lent) events in
-    begin-timed s (ownSteps (fresh s lent) events) (state .board) me call values (state .words) (run-shaped s lent ready events) (timed s lent ready events) q
+    begin-timed s (ownSteps (fresh s lent) events) (state .board) me call values (state .words) (run-shaped s lent ready events)
+    (timed s lent ready events) q
 timed s lent ready (step me ∷ events) q =
     let state : State = run (fresh s lent) events in
     step-timed s (ownSteps (fresh s lent) events) (state .board) me (state .words) (run-shaped s lent ready events) (timed s lent ready events) q

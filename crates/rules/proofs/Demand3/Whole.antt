@@ -66,14 +66,17 @@ pub record Inv (k : Kind) (W : ℕ) (st : State) : Type 0 where
 
 -- process p, which is at the variable x, takes a step that leaves o
 module _ (k : Kind) (W : ℕ) (st : State) (I : Inv k W st) (p x : ℕ) (e : st .procs p .at ≡ x) (o : Out) (F : FineK k W p (st .vars x) o) where
-  own : (y : ℕ) → PairK k W p (change (st .vars) x (o .var) y) (o .row) (change (st .procs p .sequences) x (o .sequence) y) (cond (eqb y x) (o .place) idle)
+  own : (y : ℕ) → PairK k W p (change (st .vars) x (o .var) y) (o .row) (change (st .procs p .sequences) x (o .sequence) y)
+      (cond (eqb y x) (o .place) idle)
   own = change-both (λ y v s. PairK k W p v (o .row) s (cond (eqb y x) (o .place) idle)) (st .vars) (st .procs p .sequences) x (o .var) (o .sequence)
       (rw (eq-eqb x x refl) (F .pair))
-      (λ y n. rw (ne-eqb y x n) (idle-row k W p (st .vars y) (st .rows p) (o .row) (st .procs p .sequences y) (rw (e, ne-eqb y x n) at (I .pair p y))))
+      (λ y n. rw (ne-eqb y x n) (idle-row k W p (st .vars y) (st .rows p) (o .row) (st .procs p .sequences y)
+      (rw (e, ne-eqb y x n) at (I .pair p y))))
 
   other : (r : ℕ) → r ≢ p → (y : ℕ) → PairK k W r (change (st .vars) x (o .var) y) (st .rows r) (st .procs r .sequences y) (view (st .procs r) y)
   other r n = change-all (λ y v. PairK k W r v (st .rows r) (st .procs r .sequences y) (view (st .procs r) y)) (st .vars) x (o .var)
-      (stableK k W r (st .vars x) (o .var) (I .var x) (F .inv) (F .rely r n) (st .procs r .sequences x) (st .rows r) (view (st .procs r) x) (I .pair r x))
+      (stableK k W r (st .vars x) (o .var) (I .var x) (F .inv) (F .rely r n) (st .procs r .sequences x) (st .rows r)
+      (view (st .procs r) x) (I .pair r x))
       (λ y m. I .pair r y)
 
   applied : Inv k W (record {
@@ -83,7 +86,8 @@ module _ (k : Kind) (W : ℕ) (st : State) (I : Inv k W st) (p x : ℕ) (e : st 
   })
   applied = record {
     var = change-all (λ y v. VarInvK k W v) (st .vars) x (o .var) (F .inv) (λ y n. I .var y);
-    pair = change-both (λ r row c. (y : ℕ) → PairK k W r (change (st .vars) x (o .var) y) row (c .sequences y) (view c y)) (st .rows) (st .procs) p (o .row)
+    pair = change-both (λ r row c. (y : ℕ) → PairK k W r (change (st .vars) x (o .var) y) row (c .sequences y) (view c y))
+        (st .rows) (st .procs) p (o .row)
         (record { at = x; place = o .place; sequences = change (st .procs p .sequences) x (o .sequence) }) own other;
   }
 
@@ -104,13 +108,17 @@ pub begin-kept : (k : Kind) (W : ℕ) (st : State) → Inv k W st → (p : ℕ) 
     Has c (st .procs p .sequences x) → Inv k W (begun st p x (firstOf c new))
 begin-kept k W st I p e x c new h = record {
   var = change-all (λ y v. VarInvK k W v) (st .vars) x (anew p (st .vars x)) (anew-inv k W p (st .vars x) (I .var x)) (λ y n. I .var y);
-  pair = change-all (λ r k′. (y : ℕ) → PairK k W r (change (st .vars) x (anew p (st .vars x)) y) (st .rows r) (k′ .sequences y) (view k′ y)) (st .procs) p
+  pair = change-all (λ r k′. (y : ℕ) → PairK k W r (change (st .vars) x (anew p (st .vars x)) y) (st .rows r) (k′ .sequences y)
+      (view k′ y)) (st .procs) p
       (record { at = x; place = firstOf c new; sequences = st .procs p .sequences })
-      (change-all (λ y v. PairK k W p v (st .rows p) (st .procs p .sequences y) (cond (eqb y x) (firstOf c new) idle)) (st .vars) x (anew p (st .vars x))
-      (rw (eq-eqb x x refl) (beginK k W p (anew p (st .vars x)) (st .rows p) (st .procs p .sequences x) (anew-idle k W p (st .vars x) (st .rows p) (st .procs p .sequences x) (was x)) c new h))
+      (change-all (λ y v. PairK k W p v (st .rows p) (st .procs p .sequences y) (cond (eqb y x) (firstOf c new) idle)) (st .vars) x
+      (anew p (st .vars x))
+      (rw (eq-eqb x x refl) (beginK k W p (anew p (st .vars x)) (st .rows p) (st .procs p .sequences x)
+      (anew-idle k W p (st .vars x) (st .rows p) (st .procs p .sequences x) (was x)) c new h))
       (λ y n. rw (ne-eqb y x n) (was y)))
       (λ r n. change-all (λ y v. PairK k W r v (st .rows r) (st .procs r .sequences y) (view (st .procs r) y)) (st .vars) x (anew p (st .vars x))
-      (stableK k W r (st .vars x) (anew p (st .vars x)) (I .var x) (anew-inv k W p (st .vars x) (I .var x)) (anew-rely k W p (st .vars x) r n) (st .procs r .sequences x) (st .rows r) (view (st .procs r) x) (I .pair r x))
+      (stableK k W r (st .vars x) (anew p (st .vars x)) (I .var x) (anew-inv k W p (st .vars x) (I .var x))
+      (anew-rely k W p (st .vars x) r n) (st .procs r .sequences x) (st .rows r) (view (st .procs r) x) (I .pair r x))
       (λ y m. I .pair r y));
 }
   where
