@@ -15,7 +15,7 @@ use Rattle.rules.specs.declared.Call.{Call}
 use Rattle.rules.specs.declared.Check.{Check}
 use Rattle.rules.specs.declared.Check.the-variants.{Fine, Refused}
 use Rattle.rules.specs.declared.Kind.the-variants.{One, Many}
-use Rattle.rules.proofs.Accepted.{Accepted, step-accepted}
+use Rattle.rules.proofs.Checked.{Accepted, step-accepted}
 use Rattle.rules.proofs.Frame.{framed}
 use Rattle.rules.proofs.Places.{variableAt}
 use Rattle.rules.proofs.Held.{at-place}
