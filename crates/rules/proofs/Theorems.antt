@@ -30,9 +30,11 @@ pub use Rattle.rules.proofs.Runs.{Running, always-in-form}
 -- at each place: a load's first step opens its sequence, a store's answer closes it; a step writes at most the word that
 -- the place names, leaves the other variables' sequences and keep-words and the new values, and answers no refusal
 pub use Rattle.rules.proofs.Frame.{Framed, framed}
--- the word that a step writes is its variable's or in the own announce row
-pub use Rattle.rules.proofs.Reach.{Where, place-writes, writes-used}
+-- a step writes at most one word, which is its variable's or in the own announce row
+pub use Rattle.rules.proofs.Reach.{one-word, Where, place-writes, writes-used}
 -- neither a begin nor a step changes another process or the settings
 pub use Rattle.rules.proofs.Leaves.{begin-no-other, step-no-other, begin-settings, step-settings}
 -- a step changes no word past those used, none of another variable, none of another process's announce row
 pub use Rattle.rules.proofs.Leaves.{step-rest, step-length, step-past, step-word, step-header, step-segment, step-row}
+-- at the entry point: a load's first step opens its sequence, a store's answer closes it; no other variable's changes
+pub use Rattle.rules.proofs.Leaves.{step-own, step-sequence, step-sequences}
