@@ -28,3 +28,4 @@ pub mod Slips
 pub mod FormCases
 pub mod Cases
 pub mod Theorems
+pub mod Demand3

@@ -10,3 +10,8 @@ pub mod Entry
 pub mod Answers
 pub mod Runs
 pub mod Schedules
+pub mod Figure2
+pub mod Onlooker
+pub mod OwnSteps
+pub mod Demand3
+pub mod Demand3Runs

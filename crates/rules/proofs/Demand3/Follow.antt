@@ -1,0 +1,286 @@
+-- The whole board stands for a state of the machine over versions, and every begin and step keeps it so. Assumes nothing.
+use mathlib.Core.Path.{_≡_, refl, ap, sym, _∙_}
+use mathlib.Core.Bool.{true, false, cond}
+use mathlib.Core.List.{List, [], _∷_}
+use Prim.Native.Nat.{ℕ, _+_, _≤_, _<_}
+use native.Mathlib.Omega.{arith}
+use lib.ListN.{length, getD, set, length-set}
+use lib.Seq.{getD-set-same, getD-set-other}
+use borrow.Author.Tests.{eq-eqb, not-false}
+use Rattle.word.specs.Word.{tagLimit}
+use Rattle.rules.specs.Bounds.{Sized}
+use Rattle.rules.specs.Demand3.{Another, inSequence}
+use Rattle.rules.specs.Entry.{stepped}
+use Rattle.rules.specs.Figure2.{change, content, truth}
+use Rattle.rules.specs.Figure4.{Step}
+use Rattle.rules.specs.GoodForm.{placeFits, processFits}
+use Rattle.rules.specs.Onlooker.{Seen, Note, begins, see, taken, variableAt, noteAt, newValues}
+use Rattle.rules.specs.Processes.{isIdle, isOpen, nobody}
+use Rattle.rules.specs.Refusals.{variableOf, lacksSequence}
+use Rattle.rules.specs.Sizes.{bits}
+use Rattle.rules.specs.Steps.{firstPlace, beginning, stepFrom, processStep}
+use Rattle.rules.specs.declared.Answer.{Answer}
+use Rattle.rules.specs.declared.Answer.the-variants.{Begun, Busy, Value, Witness, Yes, No, Refused}
+use Rattle.rules.specs.declared.Answered.{Answered}
+use Rattle.rules.specs.declared.Board.{Board}
+use Rattle.rules.specs.declared.Call.{Call}
+use Rattle.rules.specs.declared.Call.the-variants.{Load, Validate, Store}
+use Rattle.rules.specs.declared.Kind.{Kind}
+use Rattle.rules.specs.declared.Kind.the-variants.{One, Many}
+use Rattle.rules.specs.declared.Place.{Place}
+use Rattle.rules.specs.declared.Place.the-variants.{Idle, LoadReadsWord, ValidateReadsWord, StoreSwapsWord, LoadReadsHeader, ValidateReadsHeader, StoreReadsHeader, StoreAnnounces, StoreSwapsHeader, ReadsSegment, ReadsAnnounced, SwapsSegment, ReadsSegmentAgain, ReadsHeader}
+use Rattle.rules.specs.declared.Process.{Process}
+use Rattle.rules.specs.declared.Settings.{Settings}
+use Rattle.rules.proofs.Held as form
+use Rattle.rules.proofs.Demand3.Accepted.{StepTaken, BeginTaken, in-form}
+use Rattle.rules.proofs.Demand3.Change.{never, change-same, change-id, change-all, change-both}
+use Rattle.rules.proofs.Demand3.Inv.{Right, Counts}
+use Rattle.rules.proofs.Demand3.Keeping.{Held}
+use Rattle.rules.proofs.Demand3.Kinds.{width, VarInvK, PairK, FineK, firstOf, Has, past}
+use Rattle.rules.proofs.Demand3.Link.{at-place, StandsOne, one-idle, one-load, one-validate, one-store, Stands, at-idle, at-load, at-validate, at-store, at-announce, at-swap, at-segment, at-announced, at-segment-swap, at-again, at-header, StandsK, Says, says-busy, says-values, says-witness, says-yes, says-no, Linked}
+use Rattle.rules.proofs.Demand3.LinkMany.{link-many}
+use Rattle.rules.proofs.Demand3.LinkOne.{link-one}
+use Rattle.rules.proofs.Demand3.Machine.{Told, Place as Stand, idle, Sequence, Var, none, Core, anew, rules}
+use Rattle.rules.proofs.Demand3.Memory.{MemK, WroteK, put-kind}
+use Rattle.rules.proofs.Demand3.Runs as runs
+use Rattle.rules.proofs.Demand3.Steps.{nearer}
+use Rattle.rules.proofs.Demand3.Whole.{Proc, State, Inv, outAt, apply, begun, fine, stepped as machine-stepped, begin-kept}
+
+-- a process of the board stands for one of the machine
+pub record ProcessMeans (k : Kind) (s : Settings) (r : Proc) (q : Process) : Type 0 where
+  pub stands : StandsK k (bits s) (r .at) (q .values) (q .gathered) (q .place) (r .place)
+  pub held : Held k s (r .sequences) (q .keep) (q .opened)
+
+-- so do all, with the words and what was seen
+pub record BoardMeans (s : Settings) (st : State) (processes : List Process) (words : List ℕ) (seen : ℕ → Seen) : Type 0 where
+  pub sixteen : length processes ≡ 16
+  pub memory : MemK (s .kind) s (st .vars) (st .rows) words
+  pub process : (p : ℕ) → p < s .n → ProcessMeans (s .kind) s (st .procs p) (getD processes p nobody)
+  pub as-seen : (x : ℕ) → seen x ≡ st .vars x .seen
+
+-- places
+pub place-in : (s : Settings) (m : ℕ) (place : Place) → placeFits s m place ≡ true → isIdle place ≡ false → variableAt place < s .t
+place-in s m Idle f i = never i
+place-in s m (LoadReadsWord x) f i = form.one-in s x f
+place-in s m (ValidateReadsWord x) f i = form.one-in s x (form.one-open s m x f)
+place-in s m (StoreSwapsWord x) f i = form.one-in s x (form.one-open s m x f)
+place-in s m (LoadReadsHeader x) f i = form.many-in s x f
+place-in s m (ValidateReadsHeader x) f i = form.many-in s x (form.many-open s m x f)
+place-in s m (StoreReadsHeader x) f i = form.many-in s x (form.many-open s m x f)
+place-in s m (StoreAnnounces x header j) f i = form.many-in s x (form.held s m x header (form.segment s m x header j f))
+place-in s m (StoreSwapsHeader x header) f i = form.many-in s x (form.held s m x header f)
+place-in s m (ReadsSegment c) f i = form.many-in s (c .variable) (form.held s m (c .variable) (c .header) (form.segment s m (c .variable) (c .header) (c .segment) f))
+place-in s m (ReadsAnnounced c read) f i = form.many-in s (c .variable) (form.held s m (c .variable) (c .header) (form.segment s m (c .variable) (c .header) (c .segment) f))
+place-in s m (SwapsSegment c read u) f i = form.many-in s (c .variable) (form.held s m (c .variable) (c .header) (form.segment s m (c .variable) (c .header) (c .segment) (form.held-copy s m u c f)))
+place-in s m (ReadsSegmentAgain c) f i = form.many-in s (c .variable) (form.held s m (c .variable) (c .header) (form.segment s m (c .variable) (c .header) (c .segment) f))
+place-in s m (ReadsHeader c u) f i = form.many-in s (c .variable) (form.held s m (c .variable) (c .header) (form.segment s m (c .variable) (c .header) (c .segment) (form.held-copy s m u c f)))
+
+-- what both tell of a place
+pub record Alike (x : ℕ) (place : Place) (stand : Stand) : Type 0 where
+  pub variable : isIdle place ≡ false → variableAt place ≡ x
+  pub sequence : past stand ≡ inSequence place
+  pub idle' : isIdle place ≡ true → stand ≡ idle
+
+alike-one : {x : ℕ} {new : List ℕ} {place : Place} {stand : Stand} → StandsOne x new place stand → Alike x place stand
+alike-one one-idle = record { variable = λ e. never e; sequence = refl; idle' = λ e. refl }
+alike-one one-load = record { variable = λ e. refl; sequence = refl; idle' = λ e. never (sym e) }
+alike-one one-validate = record { variable = λ e. refl; sequence = refl; idle' = λ e. never (sym e) }
+alike-one one-store = record { variable = λ e. refl; sequence = refl; idle' = λ e. never (sym e) }
+
+alike-many : {b x : ℕ} {new got : List ℕ} {place : Place} {stand : Stand} → Stands b x new got place stand → Alike x place stand
+alike-many at-idle = record { variable = λ e. never e; sequence = refl; idle' = λ e. refl }
+alike-many at-load = record { variable = λ e. refl; sequence = refl; idle' = λ e. never (sym e) }
+alike-many at-validate = record { variable = λ e. refl; sequence = refl; idle' = λ e. never (sym e) }
+alike-many at-store = record { variable = λ e. refl; sequence = refl; idle' = λ e. never (sym e) }
+alike-many (at-announce M) = record { variable = λ e. refl; sequence = refl; idle' = λ e. never (sym e) }
+alike-many (at-swap M) = record { variable = λ e. refl; sequence = refl; idle' = λ e. never (sym e) }
+alike-many (at-segment M G) = record { variable = λ e. refl; sequence = refl; idle' = λ e. never (sym e) }
+alike-many (at-announced M G y) = record { variable = λ e. refl; sequence = refl; idle' = λ e. never (sym e) }
+alike-many (at-segment-swap M G y) = record { variable = λ e. refl; sequence = refl; idle' = λ e. never (sym e) }
+alike-many (at-again M G) = record { variable = λ e. refl; sequence = refl; idle' = λ e. never (sym e) }
+alike-many (at-header M G) = record { variable = λ e. refl; sequence = refl; idle' = λ e. never (sym e) }
+
+pub alike : (k : Kind) (s : Settings) (r : Proc) (q : Process) → ProcessMeans k s r q → Alike (r .at) (q .place) (r .place)
+alike One s r q m = alike-one (m .stands)
+alike Many s r q m = alike-many (m .stands)
+
+-- an answer of the board is right, by what was seen of its variable
+abbrev pub RightAnswer : ℕ → ℕ → Seen → Answer → (ℕ → ℕ) → Type 0
+RightAnswer W p o Begun g = Unit {0}
+RightAnswer W p o Busy g = Unit {0}
+RightAnswer W p o Value g = (o .since p ≡ []) × ((d : ℕ → ℕ) × (o .due p ≡ content d) × ((i : ℕ) → i < W → g i ≡ d i))
+RightAnswer W p o (Witness q) g = (m : List ℕ) × (o .since p ≡ q ∷ m)
+RightAnswer W p o Yes g = o .due p ≡ truth true
+RightAnswer W p o No g = (o .due p ≡ truth false) × Another p (o .since p)
+RightAnswer W p o (Refused r) g = Unit {0}
+
+right-said : (W p : ℕ) (o : Seen) (l : List ℕ) (told : Told) (a : Answer) → Says W l told a → Right W p o told → RightAnswer W p o a (at-place l)
+right-said W p o l told a says-busy R = tt
+right-said W p o l told a (says-values f) R = (R .0, (R .1 .0, R .1 .1, λ i h. f i h ∙ R .1 .2 i h))
+right-said W p o l told a (says-witness e) R = (R .0, rw e (R .1))
+right-said W p o l told a says-yes R = R .0
+right-said W p o l told a says-no R = (R .0, R .1 refl)
+
+-- the step of either kind
+link : (k : Kind) (s : Settings) → Sized s → (p x : ℕ) (vars : ℕ → Var) (rows : ℕ → ℕ → ℕ) (sequences : ℕ → Sequence) (q : Process) (words : List ℕ) →
+    p < s .n → x < s .t → MemK k s vars rows words → Held k s sequences (q .keep) (q .opened) → processFits s q ≡ true →
+    VarInvK k (s .w) (vars x) → (stand : Stand) → StandsK k (bits s) x (q .values) (q .gathered) (q .place) stand → isIdle (q .place) ≡ false →
+    PairK k (s .w) p (vars x) (rows p) (sequences x) stand → (past stand ≡ true → length (vars x .seen .since p) + 2 ≤ tagLimit (bits s)) →
+    Linked k s p x (q .place) q words sequences (stepFrom (q .place) s q p words) (rules k (s .w) p (vars x) rows (sequences x) stand)
+link One s z p x vars rows sequences q words pn xt M H f I stand S i P B =
+    link-one s z p x (vars x) rows sequences q words xt H (M .word x xt) (form.value-in s q f 0 (omega arith)) (q .place) stand S i P B
+link Many s z p x vars rows sequences q words pn xt M H f I stand S i P B =
+    link-many s z p x (vars x) rows sequences q words pn xt H (M .header x xt) (M .segment x xt) (M .row) I (q .place) stand S i (form.clauses s q f .place) P B
+
+wrote-none : (k : Kind) (s : Settings) (p x : ℕ) (words : List ℕ) → WroteK k s p x none words words
+wrote-none One s p x words = refl
+wrote-none Many s p x words = refl
+
+first-stands : (k : Kind) (b : ℕ) (call : Call) (new got : List ℕ) → StandsK k b (variableOf call) new got (firstPlace k call) (firstOf call (at-place new))
+first-stands One b (Load x) new got = one-load
+first-stands One b (Validate x) new got = one-validate
+first-stands One b (Store x) new got = one-store
+first-stands Many b (Load x) new got = at-load
+first-stands Many b (Validate x) new got = at-validate
+first-stands Many b (Store x) new got = at-store
+
+has : (call : Call) (opened : ℕ) (q : Sequence) → lacksSequence call opened ≡ false → isOpen opened (variableOf call) ≡ q .opened → Has call q
+has (Load x) opened q l e = tt
+has (Validate x) opened q l e = sym e ∙ not-false (isOpen opened x) l
+has (Store x) opened q l e = sym e ∙ not-false (isOpen opened x) l
+
+module _ (s : Settings) (z : Sized s) (st : State) (I : Inv (s .kind) (s .w) st) (processes : List Process) (words : List ℕ) (seen : ℕ → Seen)
+    (R : BoardMeans s st processes words seen) (me : ℕ) where
+  abbrev board : Board
+  board = record { settings = s; processes = processes }
+
+  abbrev q : Process
+  q = getD processes me nobody
+
+  -- what the onlooker saw, by an answer
+  abbrev sees : ℕ → Note → Answer → ℕ → Seen
+  sees x note a = cond (taken a) (change seen x (see me note (seen x))) seen
+
+  -- the process's own part is put back
+  put-process : (x : ℕ) (q′ : Process) (r : Proc) → me < s .n → ProcessMeans (s .kind) s r q′ →
+      (p : ℕ) → p < s .n → ProcessMeans (s .kind) s (change (st .procs) me r p) (getD (set processes me q′) p nobody)
+  put-process x q′ r mn h = change-all (λ p a. p < s .n → ProcessMeans (s .kind) s a (getD (set processes me q′) p nobody)) (st .procs) me r
+      (λ l. rw (getD-set-same processes me q′ nobody (omega (arith, R .sixteen, z .n-most))) h)
+      (λ p n l. rw (getD-set-other processes me p q′ nobody n) (R .process p l))
+
+  -- a begin
+  pub record BeginFollows (call : Call) (a : Answered) : Type 0 where
+    pub next : State
+    pub inv : Inv (s .kind) (s .w) next
+    pub means : BoardMeans s next (a .board .processes) words (sees (variableOf call) begins (a .answer))
+
+  pub begin-follows : (call : Call) (values : List ℕ) → BeginTaken board me call words →
+      BeginFollows call (runs.begun board me call values)
+  begin-follows call values t =
+      let x : ℕ = variableOf call in
+      let mine : ProcessMeans (s .kind) s (st .procs me) q = R .process me (t .board-taken .me-in) in
+      let resting : st .procs me .place ≡ idle = alike (s .kind) s (st .procs me) q mine .idle' (t .idle) in
+      record {
+        next = begun st me x (firstOf call (at-place values));
+        inv = begin-kept (s .kind) (s .w) st I me resting x call (at-place values) (has call (q .opened) (st .procs me .sequences x) (t .sequence) (mine .held .open' x));
+        means = record {
+          sixteen = length-set processes me (beginning s call values q) ∙ R .sixteen;
+          memory = rw (change-id (st .rows) me) at
+              (put-kind (s .kind) s z (st .vars) (st .rows) words (R .memory) me x (t .board-taken .me-in) (t .variable-in) (anew me (st .vars x)) none words
+              (wrote-none (s .kind) s me x words) refl refl);
+          process = put-process x (beginning s call values q) (record { at = x; place = firstOf call (at-place values); sequences = st .procs me .sequences }) (t .board-taken .me-in)
+              (record { stands = first-stands (s .kind) (bits s) call values (q .gathered); held = mine .held });
+          as-seen = change-both (λ y a c. a ≡ c .seen) seen (st .vars) x (see me begins (seen x)) (anew me (st .vars x)) (ap (see me begins) (R .as-seen x)) (λ y n. R .as-seen y);
+        };
+      }
+
+  -- a step
+  abbrev sees-step : Answer → ℕ → Seen
+  sees-step a = sees (variableAt (q .place)) (noteAt (q .place) (newValues q) a) a
+
+  pub record StepFollows (a : Answered × List ℕ) : Type 0 where
+    pub next : State
+    pub inv : Inv (s .kind) (s .w) next
+    pub means : BoardMeans s next (a .0 .board .processes) (a .1) (sees-step (a .0 .answer))
+    pub right : RightAnswer (width (s .kind) (s .w)) me (sees-step (a .0 .answer) (variableAt (q .place))) (a .0 .answer) (at-place (a .0 .values))
+    pub counts : taken (a .0 .answer) ≡ true → Counts me (sees-step (a .0 .answer) (variableAt (q .place))) (noteAt (q .place) (newValues q) (a .0 .answer))
+
+  pub step-follows : StepTaken board me words → (taken (processStep s q me words .0 .answer) ≡ true → inSequence (q .place) ≡ true → length (seen (variableAt (q .place)) .since me) + 2 ≤ tagLimit (bits s)) →
+      StepFollows (stepped board me (processStep s q me words))
+  unfolding processStep
+  step-follows t B = follows
+    where
+      k : Kind
+      k = s .kind
+
+      x : ℕ
+      x = st .procs me .at
+
+      mn : me < s .n
+      mn = t .board-taken .me-in
+
+      fits : processFits s q ≡ true
+      fits = in-form board me words (t .board-taken)
+
+      mine : ProcessMeans (s .kind) s (st .procs me) q
+      mine = R .process me mn
+
+      same-variable : variableAt (q .place) ≡ st .procs me .at
+      same-variable = alike (s .kind) s (st .procs me) q mine .variable (t .busy)
+
+      xt : st .procs me .at < s .t
+      xt = rw same-variable at (place-in s (q .opened) (q .place) (form.clauses s q fits .place) (t .busy))
+
+      pair : PairK (s .kind) (s .w) me (st .vars (st .procs me .at)) (st .rows me) (st .procs me .sequences (st .procs me .at)) (st .procs me .place)
+      pair = rw (eq-eqb (st .procs me .at) (st .procs me .at) refl) at (I .pair me (st .procs me .at))
+
+      got : taken (stepFrom (q .place) s q me words .0 .answer) ≡ true
+      got = nearer s q me words (z .w-least) (q .opened) (q .place) (form.clauses s q fits .place) (t .busy) .1
+
+      short : past (st .procs me .place) ≡ true → length (st .vars (st .procs me .at) .seen .since me) + 2 ≤ tagLimit (bits s)
+      short e = rw (← (R .as-seen (st .procs me .at)), ← same-variable) (B got (sym (alike (s .kind) s (st .procs me) q mine .sequence) ∙ e))
+
+      core : Core
+      core = rules (s .kind) (s .w) me (st .vars (st .procs me .at)) (st .rows) (st .procs me .sequences (st .procs me .at)) (st .procs me .place)
+
+      r : Step
+      r = stepFrom (q .place) s q me words
+
+      L : Linked (s .kind) s me (st .procs me .at) (q .place) q words (st .procs me .sequences) (stepFrom (q .place) s q me words)
+          (rules (s .kind) (s .w) me (st .vars (st .procs me .at)) (st .rows) (st .procs me .sequences (st .procs me .at)) (st .procs me .place))
+      L = link (s .kind) s z me (st .procs me .at) (st .vars) (st .rows) (st .procs me .sequences) q words mn xt (R .memory) (mine .held) fits
+          (I .var (st .procs me .at)) (st .procs me .place) (mine .stands) (t .busy) pair short
+
+      fine-step : FineK (s .kind) (s .w) me (st .vars (st .procs me .at)) (outAt (s .kind) (s .w) st me (st .procs me .at))
+      fine-step = fine (s .kind) (s .w) (z .w-least) st I me (st .procs me .at) refl
+
+      -- what is seen is what the machine saw
+      seen-same : (y : ℕ) → sees-step (stepFrom (q .place) s q me words .0 .answer) y
+          ≡ change (st .vars) (st .procs me .at) (outAt (s .kind) (s .w) st me (st .procs me .at) .var) y .seen
+      seen-same = rw (got, same-variable, L .note)
+          (change-both (λ y a c. a ≡ c .seen) seen (st .vars) (st .procs me .at)
+          (see me (core .note) (seen (st .procs me .at))) (outAt (s .kind) (s .w) st me (st .procs me .at) .var)
+          (ap (see me (core .note)) (R .as-seen (st .procs me .at))) (λ y n. R .as-seen y))
+
+      seen-there : sees-step (stepFrom (q .place) s q me words .0 .answer) (variableAt (q .place))
+          ≡ outAt (s .kind) (s .w) st me (st .procs me .at) .var .seen
+      seen-there = seen-same (variableAt (q .place)) ∙ ap (λ (y : ℕ). change (st .vars) (st .procs me .at) (outAt (s .kind) (s .w) st me (st .procs me .at) .var) y .seen) same-variable
+          ∙ ap (λ (v : Var). v .seen) (change-same (st .vars) (st .procs me .at) (outAt (s .kind) (s .w) st me (st .procs me .at) .var))
+
+      follows : StepFollows (stepped board me (stepFrom (q .place) s q me words))
+      follows = record {
+        next = apply st me (st .procs me .at) (outAt (s .kind) (s .w) st me (st .procs me .at));
+        inv = machine-stepped (s .kind) (s .w) (z .w-least) st I me (st .procs me .at) refl;
+        means = record {
+          sixteen = length-set processes me (stepFrom (q .place) s q me words .0 .process) ∙ R .sixteen;
+          memory = put-kind (s .kind) s z (st .vars) (st .rows) words (R .memory) me (st .procs me .at) mn xt
+              (outAt (s .kind) (s .w) st me (st .procs me .at) .var) (core .put) (stepFrom (q .place) s q me words .1) (L .wrote) refl refl;
+          process = put-process (st .procs me .at) (stepFrom (q .place) s q me words .0 .process)
+              (record { at = st .procs me .at; place = core .place; sequences = change (st .procs me .sequences) (st .procs me .at) (core .sequence) }) mn
+              (record { stands = L .stands; held = L .held });
+          as-seen = seen-same;
+        };
+        right = rw seen-there (right-said (width (s .kind) (s .w)) me (outAt (s .kind) (s .w) st me (st .procs me .at) .var .seen)
+            (stepFrom (q .place) s q me words .0 .values) (core .told) (stepFrom (q .place) s q me words .0 .answer) (L .says) (fine-step .right));
+        counts = λ g. rw (seen-there, L .note) (fine-step .counts);
+      }
