@@ -8,8 +8,9 @@ use Rattle.rules.specs.declared.Answer.{Answer}
 use Rattle.rules.specs.declared.Answer.the-variants.{Begun, Busy, Value, Witness, Yes, No, Refused}
 use Rattle.record.specs.declared.Act.{Act}
 use Rattle.record.specs.declared.Act.the-variants.{Load, Validate, Store, Step}
-use Rattle.printout.specs.Text.{ascii, line}
-use Rattle.printout.specs.Decimal.{decimalIn}
+use Rattle.rules.specs.Text.{ascii}
+use Rattle.printout.specs.Text.{line}
+use Rattle.record.specs.Decimal.{decimalIn}
 use Rattle.printout.specs.Row.{heading, rowOf}
 use Rattle.printout.specs.Writing.{longestRow}
 use Rattle.printout.specs.declared.Row.{Row}

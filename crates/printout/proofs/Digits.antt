@@ -8,8 +8,8 @@ use lib.Dec.{ltb}
 use lib.ListN.{length, set, length-append}
 use lib.Seq.{sets}
 use borrow.Author.Tests.{ltb-true, ltb-false}
-use Rattle.printout.specs.Decimal.{decimal, decimalIn}
-use Rattle.printout.proofs.Decimals.{one-digit, more-digits, tenth}
+use Rattle.record.specs.Decimal.{decimal, decimalIn}
+use Rattle.record.proofs.Decimals.{decimal-short, decimal-long, tenth}
 use Rattle.printout.proofs.Puts.{sets-more, sets-after}
 
 -- the last k digits of n
@@ -35,12 +35,12 @@ all-last (suc most) n p h =
     either true e k =
         let l : n ≤ 9 = omega (arith, ltb-true n 10 e) in
         let m : n % 10 ≡ n = omega arith in
-        rw (one-digit (suc most) n p l) (ap (λ (d : ℕ). (48 + d) ∷ []) (sym m))
+        rw (decimal-short (suc most) n p l) (ap (λ (d : ℕ). (48 + d) ∷ []) (sym m))
     either false e k =
         let g : 9 < n = omega (arith, ltb-false n 10 e) in
         let z : length (decimalIn most (n / 10) ++ ((48 + n % 10) ∷ [])) ≡ suc (length (decimalIn most (n / 10))) =
         omega (arith, length-append (decimalIn most (n / 10)) ((48 + n % 10) ∷ [])) in
-        rw (more-digits (suc most) n p g, less, z) (ap (λ (a : List ℕ). a ++ ((48 + n % 10) ∷ [])) (k g))
+        rw (decimal-long (suc most) n p g, less, z) (ap (λ (a : List ℕ). a ++ ((48 + n % 10) ∷ [])) (k g))
 
 pub decimal-last : (n : ℕ) → n < 2 ^ 64 → decimal n ≡ lastDigits (length (decimal n)) n
 decimal-last n h = all-last 20 n (omega arith) (omega arith)

@@ -8,9 +8,11 @@ use lib.Dec.{leb}
 use lib.ListN.{length, getD, take, length-append}
 use lib.Seq.{take-all}
 use borrow.Author.Tests.{leb-true, leb-false}
-use Rattle.printout.specs.Decimal.{decimal}
-use Rattle.printout.specs.Text.{ascii, after, rest}
-use Rattle.printout.specs.Row.{processField, actField, answerWord, openField, numbersOf, valueField, valueFields, rowOf}
+use Rattle.record.specs.Decimal.{decimal}
+use Rattle.rules.specs.Text.{ascii}
+use Rattle.printout.specs.Text.{after, rest}
+use Rattle.printout.specs.Row.{processField, actField, openField, valueField, valueFields, rowOf}
+use Rattle.rules.specs.Answers.{answerWord, numbersOf}
 use Rattle.printout.specs.declared.Row.{Row}
 
 pub filled : (k : ℕ) (numbers : List ℕ) → k < length numbers → valueField k numbers ≡ decimal (getD numbers k 0)

@@ -7,7 +7,8 @@ use native.Mathlib.Omega.{arith}
 use lib.ListN.{length, take, drop, length-append}
 use lib.Seq.{sets, sets-eq, length-take-le, take-at}
 use borrow.Author.Tests.{le-leb}
-use Rattle.printout.specs.Row.{numbersOf, rowOf}
+use Rattle.rules.specs.Answers.{numbersOf}
+use Rattle.printout.specs.Row.{rowOf}
 use Rattle.printout.specs.Writing.{Written, written}
 use Rattle.printout.specs.declared.Row.{Row}
 use Rattle.printout.proofs.Rows.{length-row, length-values}

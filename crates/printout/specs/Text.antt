@@ -1,13 +1,7 @@
--- The bytes of a text, and of a line by RFC 4180: fields with commas between them, closed by CR LF.
+-- A line by RFC 4180: fields with commas between them, closed by CR LF.
 use mathlib.Core.List.{List, [], _∷_, _++_}
 use Prim.Native.Nat.{ℕ}
-use Prim.Native.Char.{code}
-use Prim.Native.String.{String, [] as done, _∷_ as _then_}
-
--- a byte for each character of a text, its code: the texts here are ASCII
-abbrev pub ascii : String → List ℕ
-ascii done = []
-ascii (character then text) = code character ∷ ascii text
+use Rattle.rules.specs.Text.{ascii}
 
 -- a field with the comma before it
 abbrev pub after : List ℕ → List ℕ

@@ -3,7 +3,8 @@ use mathlib.Core.Path.{ap}
 use Prim.Native.Nat.{_-_}
 use native.Mathlib.Omega.{arith}
 use lib.ListN.{length}
-use Rattle.printout.proofs.Decimals.{Counted, counted-more, one-digit}
+use Rattle.record.proofs.Decimals.{decimal-short}
+use Rattle.printout.proofs.Decimals.{Counted, counted-more}
 use Rattle.printout.proofs.digit_count.Statement.{statement}
 use Rattle.printout.proofs.digit_count.Tie as tie
 
@@ -30,7 +31,7 @@ loop-again c =
 returns : tie.Need-returns Inv-loop μ-loop
 returns c =
     let turn = c .before in
-    omega (arith, ap length (one-digit (21 - turn .loop .count) (turn .loop .left) (omega arith) (c .loop-test .left)))
+    omega (arith, ap length (decimal-short (21 - turn .loop .count) (turn .loop .left) (omega arith) (c .loop-test .left)))
 
 pub digit-count-spec : {M : Type 1} → statement M
 digit-count-spec =

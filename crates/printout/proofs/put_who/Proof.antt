@@ -1,6 +1,6 @@
-use Rattle.printout.specs.Decimal.{decimal}
+use Rattle.record.specs.Decimal.{decimal}
 use Rattle.printout.specs.Text.{after}
-use Rattle.printout.specs.Row.{actWord}
+use Rattle.record.specs.Words.{actWord}
 -- `put_who` goes by cases: the bytes of the case are those of the two fields. Assumes nothing.
 use native.Mathlib.Omega.{arith}
 use lib.ListN.{length-append}
