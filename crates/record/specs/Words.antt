@@ -9,20 +9,19 @@ use Rattle.record.specs.declared.words.ActRead.{ActRead}
 use Rattle.record.specs.declared.words.ActRead.the-variants.{Known, Unknown}
 use Rattle.record.specs.declared.words.KindRead.{KindRead}
 use Rattle.record.specs.declared.words.KindRead.the-variants.{Known as KnownKind, Unknown as UnknownKind}
+use Rattle.rules.specs.Text.{ascii}
 use Rattle.rules.specs.declared.Kind.{Kind}
 use Rattle.rules.specs.declared.Kind.the-variants.{One, Many}
 
--- LL, VL, SC, step
 abbrev pub actWord : Act → List ℕ
-actWord Load = 76 ∷ 76 ∷ []
-actWord Validate = 86 ∷ 76 ∷ []
-actWord Store = 83 ∷ 67 ∷ []
-actWord Step = 115 ∷ 116 ∷ 101 ∷ 112 ∷ []
+actWord Load = ascii "LL"
+actWord Validate = ascii "VL"
+actWord Store = ascii "SC"
+actWord Step = ascii "step"
 
--- one, many
 abbrev pub kindWord : Kind → List ℕ
-kindWord One = 111 ∷ 110 ∷ 101 ∷ []
-kindWord Many = 109 ∷ 97 ∷ 110 ∷ 121 ∷ []
+kindWord One = ascii "one"
+kindWord Many = ascii "many"
 
 -- two lists have the same bytes
 unfoldable pub same : List ℕ → List ℕ → Bool

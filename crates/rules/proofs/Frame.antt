@@ -44,7 +44,8 @@ pub record Framed (l : Place) (W : ℕ → Type 0) (p : Process) (words : List �
   pub own : Own l p (step .0)
   pub touched : Touched W words (step .1)
 
-module _ (l : Place) (p : Process) (moved : Moved) (values : moved .process .values ≡ p .values) (answers : isRefusal (moved .answer) ≡ false) where
+module _ (l : Place) (p : Process) (moved : Moved)
+    (values : moved .process .values ≡ p .values) (answers : isRefusal (moved .answer) ≡ false) where
   -- nothing of the process but its place and what it gathered has changed
   stays : moved .process .opened ≡ p .opened → moved .process .keep ≡ p .keep
       → openAfter l (moved .answer) (isOpen (p .opened) (variableAt l)) ≡ isOpen (p .opened) (variableAt l) → Own l p moved
@@ -138,57 +139,59 @@ module _ (s : Settings) (c : Copy) (value : ℕ) (p : Process) where
       (λ e. stays (ReadsHeader c value) p _ refl refl refl refl (a-load e))
       (λ e. closes (ReadsHeader c value) p _ refl refl refl refl (a-store e))
 
+-- a step that reads, and one that writes where its place says
+module _ {l : Place} {W : ℕ → Type 0} {p : Process} {words : List ℕ} {moved : Moved} (own : Own l p moved) where
+  reads : Framed l W p words (moved, words)
+  reads = record { own = own; touched = untouched W words }
+
+  writes : (a v : ℕ) → ((b : ℕ) → b ≡ a → W b) → Framed l W p words (moved, set words a v)
+  writes a v there = record { own = own; touched = written W words a v there }
+
 -- every place but idle
 pub framed : (l : Place) (s : Settings) (p : Process) (me : ℕ) (words : List ℕ) → isIdle l ≡ false
     → Framed l (Writes s me l) p words (stepFrom l s p me words)
-framed Idle s p me words e = record { own = stays Idle p _ refl e refl refl refl; touched = untouched _ words }
+framed Idle s p me words e = reads (stays Idle p _ refl e refl refl refl)
 framed (LoadReadsWord x) s p me words e =
-    record { own = opens (LoadReadsWord x) p _ refl refl (wordOf x words) refl refl refl; touched = untouched _ words }
+    reads (opens (LoadReadsWord x) p _ refl refl (wordOf x words) refl refl refl)
 framed (ValidateReadsWord x) s p me words e =
     let same = eqb (wordOf x words) (keptOf x p) in
-    record { own = stays (ValidateReadsWord x) p _ refl (yes-or-no same) refl refl (no-store (cond same Yes No) _); touched = untouched _ words }
+    reads (stays (ValidateReadsWord x) p _ refl (yes-or-no same) refl refl (no-store (cond same Yes No) _))
 framed (StoreSwapsWord x) s p me words e =
     both-arms (Framed (StoreSwapsWord x) (Writes s me (StoreSwapsWord x)) p words) (eqb (wordOf x words) (keptOf x p)) _ _
-    (record { own = closes (StoreSwapsWord x) p _ refl refl refl refl refl; touched = written _ words (wordAt x) _ (λ b q. q) })
-    (record { own = closes (StoreSwapsWord x) p _ refl refl refl refl refl; touched = untouched _ words })
+    (writes (closes (StoreSwapsWord x) p _ refl refl refl refl refl) (wordAt x) _ (λ b q. q))
+    (reads (closes (StoreSwapsWord x) p _ refl refl refl refl refl))
 framed (LoadReadsHeader x) s p me words e =
-    record { own = opens (LoadReadsHeader x) p _ refl refl (tagOf (bits s) (headerOf s x words)) refl refl refl; touched = untouched _ words }
+    reads (opens (LoadReadsHeader x) p _ refl refl (tagOf (bits s) (headerOf s x words)) refl refl refl)
 framed (ValidateReadsHeader x) s p me words e =
     let same = eqb (tagOf (bits s) (headerOf s x words)) (keptOf x p) in
-    record { own = stays (ValidateReadsHeader x) p _ refl (yes-or-no same) refl refl (no-store (cond same Yes No) _); touched = untouched _ words }
+    reads (stays (ValidateReadsHeader x) p _ refl (yes-or-no same) refl refl (no-store (cond same Yes No) _))
 framed (StoreReadsHeader x) s p me words e =
     both-arms (Framed (StoreReadsHeader x) (Writes s me (StoreReadsHeader x)) p words)
     (eqb (tagOf (bits s) (headerOf s x words)) (keptOf x p)) _ _
-    (record { own = stays (StoreReadsHeader x) p _ refl refl refl refl refl; touched = untouched _ words })
-    (record { own = closes (StoreReadsHeader x) p _ refl refl refl refl refl; touched = untouched _ words })
+    (reads (stays (StoreReadsHeader x) p _ refl refl refl refl refl))
+    (reads (closes (StoreReadsHeader x) p _ refl refl refl refl refl))
 framed (StoreAnnounces x header i) s p me words e =
-    record {
-      own = stays (StoreAnnounces x header i) p _ refl refl refl refl refl;
-      touched = written _ words (announceAt s me i) _ (λ b q. q);
-    }
+    writes (stays (StoreAnnounces x header i) p _ refl refl refl refl refl) (announceAt s me i) _ (λ b q. q)
 framed (StoreSwapsHeader x header) s p me words e =
     both-arms (Framed (StoreSwapsHeader x header) (Writes s me (StoreSwapsHeader x header)) p words) (eqb (headerOf s x words) header) _ _
-    (record { own = stays (StoreSwapsHeader x header) p _ refl refl refl refl refl; touched = written _ words (headerAt s x) _ (λ b q. q) })
-    (record { own = closes (StoreSwapsHeader x header) p _ refl refl refl refl refl; touched = untouched _ words })
+    (writes (stays (StoreSwapsHeader x header) p _ refl refl refl refl refl) (headerAt s x) _ (λ b q. q))
+    (reads (closes (StoreSwapsHeader x header) p _ refl refl refl refl refl))
 framed (ReadsSegment c) s p me words e =
     both-arms (Framed (ReadsSegment c) (Writes s me (ReadsSegment c)) p words)
     (eqb (tagOf (bits s) (segmentOf s (c .variable) (c .segment) words)) (previousTag (bits s) (tagOf (bits s) (c .header)))) _ _
-    (record { own = stays (ReadsSegment c) p _ refl refl refl refl refl; touched = untouched _ words })
-    (record { own = stays (ReadsSegment c) p _ refl refl refl refl refl; touched = untouched _ words })
+    (reads (stays (ReadsSegment c) p _ refl refl refl refl refl))
+    (reads (stays (ReadsSegment c) p _ refl refl refl refl refl))
 framed (ReadsAnnounced c read) s p me words e =
-    record { own = stays (ReadsAnnounced c read) p _ refl refl refl refl refl; touched = untouched _ words }
+    reads (stays (ReadsAnnounced c read) p _ refl refl refl refl refl)
 framed (SwapsSegment c read announced) s p me words e =
     both-arms (Framed (SwapsSegment c read announced) (Writes s me (SwapsSegment c read announced)) p words)
     (eqb (segmentOf s (c .variable) (c .segment) words) read) _ _
-    (record {
-      own = stays (SwapsSegment c read announced) p _ refl refl refl refl refl;
-      touched = written _ words (segmentAt s (c .variable) (c .segment)) _ (λ b q. q);
-    })
-    (record { own = stays (SwapsSegment c read announced) p _ refl refl refl refl refl; touched = untouched _ words })
+    (writes (stays (SwapsSegment c read announced) p _ refl refl refl refl refl) (segmentAt s (c .variable) (c .segment)) _ (λ b q. q))
+    (reads (stays (SwapsSegment c read announced) p _ refl refl refl refl refl))
 framed (ReadsSegmentAgain c) s p me words e =
-    record { own = stays (ReadsSegmentAgain c) p _ refl refl refl refl refl; touched = untouched _ words }
+    reads (stays (ReadsSegmentAgain c) p _ refl refl refl refl refl)
 framed (ReadsHeader c value) s p me words e =
     both-arms (Framed (ReadsHeader c value) (Writes s me (ReadsHeader c value)) p words)
     (eqb (headerOf s (c .variable) words) (c .header)) _ _
-    (record { own = on s c value p (saving c value p) (saves c value p); touched = untouched _ words })
-    (record { own = short s c value p _; touched = untouched _ words })
+    (reads (on s c value p (saving c value p) (saves c value p)))
+    (reads (short s c value p _))

@@ -5,7 +5,7 @@ pub mod Masks
 pub mod Held
 pub mod Schedules
 pub mod Branches
-pub mod Accepted
+pub mod Checked
 pub mod Closing
 pub mod Counts
 pub mod Places
@@ -15,7 +15,7 @@ pub mod Shapes
 pub mod Written
 pub mod Sounds
 pub mod Kept
-pub mod Begins
+pub mod FirstPlace
 pub mod Keeps
 pub mod Fresh
 pub mod Reach
@@ -25,6 +25,7 @@ pub mod Packing
 pub mod Computing
 pub mod RefusalOrder
 pub mod Slips
+pub mod FormCases
 pub mod Cases
 pub mod Theorems
 pub mod Demand3

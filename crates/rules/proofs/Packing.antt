@@ -2,18 +2,15 @@
 use mathlib.Core.Path.{_≡_, refl, sym, ap, _∙_}
 use mathlib.Core.Bool.{Bool, true, false, cond, _&&_}
 use Prim.Native.Nat.{ℕ, _^_, _≤_, _<_}
-use native.Mathlib.Omega.{arith}
 use borrow.Author.Tests.{leb-true, ltb-true, lt-ltb}
 use lib.Dec.{leb, ltb}
 use Rattle.word.proofs.Laws.{tag-word, value-word, word-parts, value-lt, tag-lt}
 use Rattle.word.specs.Packing.{packRule, unpackRule}
 use Rattle.word.specs.Word.{bitsFit, tagLimit, valueLimit, word, tagOf, valueOf}
-use Rattle.word.specs.declared.Packed.{Packed}
 use Rattle.word.specs.declared.Packed.the-variants.{Word, Refused as NotPacked}
 use Rattle.word.specs.declared.Refusal.the-variants.{SettingOutsideSizes, ValueTooGreat}
-use Rattle.word.specs.declared.Unpacked.{Unpacked}
 use Rattle.word.specs.declared.Unpacked.the-variants.{Parts, Refused as NotUnpacked}
-use Rattle.rules.proofs.Tests.{and-left, and-right, and-both}
+use Rattle.rules.proofs.Tests.{and-right}
 
 -- unpacking a packed word gives its parts
 pub packed-unpacks : (b tag value w : ℕ) → packRule b tag value ≡ Word w → unpackRule b w ≡ Parts tag value

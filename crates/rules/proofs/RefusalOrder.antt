@@ -5,18 +5,15 @@ use mathlib.Core.List.{List, [], _∷_}
 use Prim.Native.Nat.{ℕ}
 use Rattle.word.specs.Packing.{packRule}
 use Rattle.word.specs.declared.Packed.the-variants.{Refused as NotPacked}
-use Rattle.word.specs.declared.Refusal.{Refusal}
 use Rattle.word.specs.declared.Refusal.the-variants.{SettingOutsideSizes, MemoryTooShort, NotInGoodForm, NoSuchProcess, NoSuchVariable, CallInProgress, NoOpenSequence, ValueTooGreat, ProcessIdle}
 use Rattle.rules.specs.Entry.{freshProcess, freshBoard}
 use Rattle.rules.specs.Processes.{at, opening, noValues, putProcess}
 use Rattle.rules.specs.Refusals.{sizesCheck, processCheck, beginCheck, stepCheck}
 use Rattle.rules.specs.Schedules.{settings}
 use Rattle.rules.specs.declared.Board.{Board}
-use Rattle.rules.specs.declared.Call.{Call}
 use Rattle.rules.specs.declared.Call.the-variants.{Load, Validate, Store}
-use Rattle.rules.specs.declared.Check.{Check}
 use Rattle.rules.specs.declared.Check.the-variants.{Fine, Refused}
-use Rattle.rules.specs.declared.Kind.the-variants.{One, Many}
+use Rattle.rules.specs.declared.Kind.the-variants.{One}
 use Rattle.rules.specs.declared.Place.the-variants.{LoadReadsWord, LoadReadsHeader}
 use Rattle.rules.proofs.Computing.{schedule}
 

@@ -1,26 +1,27 @@
--- What document 01's printout says of each answer: its word, as bytes, and the numbers that stand in the value fields.
+-- What document 01's printout says of each answer: its word, and the numbers that stand in the value fields.
 use mathlib.Core.List.{List, [], _∷_}
 use Prim.Native.Nat.{ℕ}
 use lib.ListN.{take}
 use Rattle.word.specs.Refusals.{number}
+use Rattle.rules.specs.Text.{ascii}
 use Rattle.rules.specs.declared.Answer.{Answer}
 use Rattle.rules.specs.declared.Answer.the-variants.{Begun, Busy, Value, Witness, Yes, No, Refused}
 
 abbrev pub answerWord : Answer → List ℕ
-answerWord Begun = 98 ∷ 101 ∷ 103 ∷ 117 ∷ 110 ∷ []
-answerWord Busy = 98 ∷ 117 ∷ 115 ∷ 121 ∷ []
-answerWord Value = 118 ∷ 97 ∷ 108 ∷ 117 ∷ 101 ∷ []
-answerWord (Witness q) = 119 ∷ 105 ∷ 116 ∷ 110 ∷ 101 ∷ 115 ∷ 115 ∷ []
-answerWord Yes = 121 ∷ 101 ∷ 115 ∷ []
-answerWord No = 110 ∷ 111 ∷ []
-answerWord (Refused refusal) = 114 ∷ 101 ∷ 102 ∷ 117 ∷ 115 ∷ 101 ∷ 100 ∷ []
+answerWord Begun = ascii "begun"
+answerWord Busy = ascii "busy"
+answerWord Value = ascii "value"
+answerWord (Witness process) = ascii "witness"
+answerWord Yes = ascii "yes"
+answerWord No = ascii "no"
+answerWord (Refused refusal) = ascii "refused"
 
--- `value` tells its W values, `witness` and `refused` their number, the others nothing
-abbrev pub answerNumbers : ℕ → Answer → List ℕ → List ℕ
-answerNumbers w Begun values = []
-answerNumbers w Busy values = []
-answerNumbers w Value values = take w values
-answerNumbers w (Witness q) values = q ∷ []
-answerNumbers w Yes values = []
-answerNumbers w No values = []
-answerNumbers w (Refused refusal) values = number refusal ∷ []
+-- `value` puts its W values in v0 and on, `witness` and `refused` put their number in v0
+abbrev pub numbersOf : Answer → ℕ → List ℕ → List ℕ
+numbersOf Value w values = take w values
+numbersOf (Witness process) w values = process ∷ []
+numbersOf (Refused refusal) w values = number refusal ∷ []
+numbersOf Begun w values = []
+numbersOf Busy w values = []
+numbersOf Yes w values = []
+numbersOf No w values = []

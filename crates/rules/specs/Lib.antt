@@ -7,6 +7,7 @@ pub mod Steps
 pub mod GoodForm
 pub mod Refusals
 pub mod Entry
+pub mod Text
 pub mod Answers
 pub mod Runs
 pub mod Schedules

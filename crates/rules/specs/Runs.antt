@@ -1,7 +1,7 @@
 -- Begins and steps in any order, over the entry rules: the state after them, and what each answers.
 use mathlib.Core.List.{List, [], _∷_}
 use Prim.Native.Nat.{ℕ}
-use Rattle.rules.specs.Answers.{answerNumbers}
+use Rattle.rules.specs.Answers.{numbersOf}
 use Rattle.rules.specs.Entry.{setUpRule, beginRule, stepRule, openCountRule}
 use Rattle.rules.specs.declared.Answer.{Answer}
 use Rattle.rules.specs.declared.Answered.{Answered}
@@ -50,7 +50,7 @@ rowOf event state =
     record {
       answer = entry event state .0 .answer;
       open' = openCountRule (after event state .board) (processOf event) (after event state .words);
-      numbers = answerNumbers (state .board .settings .w) (entry event state .0 .answer) (entry event state .0 .values);
+      numbers = numbersOf (entry event state .0 .answer) (state .board .settings .w) (entry event state .0 .values);
     }
 
 -- the rows of a schedule, whose first event stands first

@@ -32,7 +32,7 @@ use Rattle.rules.specs.declared.Place.the-variants.{Idle, LoadReadsWord,
 use Rattle.rules.specs.declared.Process.{Process}
 use Rattle.rules.specs.declared.Settings.{Settings}
 use Rattle.rules.proofs.Held as form
-use Rattle.rules.proofs.Accepted.{Accepted, Beginning}
+use Rattle.rules.proofs.Checked.{Accepted, Beginning}
 use Rattle.rules.proofs.Keeps.{process-fits}
 use Rattle.rules.proofs.Demand3.Change.{never, change-same, change-id, change-all, change-both}
 use Rattle.rules.proofs.Demand3.Inv.{Right, Counts}

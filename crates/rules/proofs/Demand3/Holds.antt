@@ -31,7 +31,7 @@ use Rattle.rules.proofs.Held.{clauses}
 use Rattle.rules.proofs.Keeps.{process-fits}
 use Rattle.rules.proofs.Sized.{sized}
 use Rattle.rules.proofs.Tests.{and-right}
-use Rattle.rules.proofs.Accepted.{Accepted, stands}
+use Rattle.rules.proofs.Checked.{Accepted, stands}
 use Rattle.rules.proofs.Demand3.Change.{never, change-all}
 use Rattle.rules.proofs.Demand3.Follow.{ProcessMeans, BoardMeans, place-in, alike, RightAnswer, BeginFollows, begin-follows, StepFollows, step-follows}
 use Rattle.rules.proofs.Demand3.Fresh.{fresh-means}

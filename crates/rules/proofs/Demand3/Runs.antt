@@ -26,7 +26,7 @@ use Rattle.rules.specs.declared.SetUp.{SetUp}
 use Rattle.rules.specs.declared.Settings.{Settings}
 use Rattle.rules.specs.declared.Start.the-variants.{Ready}
 use Rattle.word.specs.declared.Refusal.{Refusal}
-use Rattle.rules.proofs.Accepted.{stands, Accepted, Beginning, step-accepted, step-fine, begin-accepted}
+use Rattle.rules.proofs.Checked.{stands, Accepted, Beginning, step-accepted, step-fine, begin-accepted}
 use Rattle.rules.proofs.Fresh.{set-up-accepted}
 use Rattle.rules.proofs.Runs.{always-in-form}
 use Rattle.rules.proofs.Demand3.Change.{never}

@@ -40,7 +40,7 @@ use Rattle.rules.specs.declared.Process.{Process}
 use Rattle.rules.specs.declared.Settings.{Settings}
 use Rattle.rules.proofs.Held.{segment-in, clauses}
 use Rattle.rules.proofs.Sized.{sized}
-use Rattle.rules.proofs.Accepted.{Accepted, step-accepted}
+use Rattle.rules.proofs.Checked.{Accepted, step-accepted}
 use Rattle.rules.proofs.Branches.{branch, both-arms}
 use Rattle.rules.proofs.Keeps.{process-fits}
 use Rattle.rules.proofs.Demand3.Change.{never, change-all}
