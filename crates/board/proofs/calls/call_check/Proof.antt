@@ -10,7 +10,9 @@ variable-of-requires c κs = search needs
 
 returns : tie.Need-returns
 unfolding refusals.callCheck
-returns c = rw (le-leb _ _ (rw (c .before .before .variable-of .ensures) at (c .if1 .taken)))
+returns c =
+    let variable = le-leb _ _ (rw (c .before .before .variable-of .ensures) at (c .if1 .taken)) in
+    rw (variable)
 
 is-idle-requires : tie.Need-is-idle-requires
 is-idle-requires c κs = search needs
@@ -18,7 +20,8 @@ is-idle-requires c κs = search needs
 returns-2 : tie.Need-returns-2
 unfolding refusals.callCheck
 returns-2 c =
-    let variable = lt-leb _ _ (rw (c .before .before .before .before .variable-of .ensures) at (c .before .before .if1 .left)) in
+    let past1 = c .before .before in
+    let variable = lt-leb _ _ (rw (past1 .before .before .variable-of .ensures) at (past1 .if1 .left)) in
     let idle = sym (c .before .is-idle .ensures) ∙ not-true _ (c .if2 .taken) in
     rw (variable, idle)
 
@@ -28,8 +31,10 @@ lacks-sequence-requires c κs = search needs
 returns-3 : tie.Need-returns-3
 unfolding refusals.callCheck
 returns-3 c =
-    let variable = lt-leb _ _ (rw (c .before .before .before .before .before .before .variable-of .ensures) at (c .before .before .before .before .if1 .left)) in
-    let idle = sym (c .before .before .before .is-idle .ensures) ∙ not-false _ (c .before .before .if2 .left) in
+    let past2 = c .before .before in
+    let past1 = past2 .before .before in
+    let variable = lt-leb _ _ (rw (past1 .before .before .variable-of .ensures) at (past1 .if1 .left)) in
+    let idle = sym (past2 .before .is-idle .ensures) ∙ not-false _ (past2 .if2 .left) in
     let sequence = sym (c .before .lacks-sequence .ensures) ∙ c .if3 .taken in
     rw (variable, idle, sequence)
 
@@ -39,18 +44,24 @@ values-right-requires c κs = search needs
 returns-4 : tie.Need-returns-4
 unfolding refusals.callCheck
 returns-4 c =
-    let variable = lt-leb _ _ (rw (c .before .before .before .before .before .before .before .before .variable-of .ensures) at (c .before .before .before .before .before .before .if1 .left)) in
-    let idle = sym (c .before .before .before .before .before .is-idle .ensures) ∙ not-false _ (c .before .before .before .before .if2 .left) in
-    let sequence = sym (c .before .before .before .lacks-sequence .ensures) ∙ c .before .before .if3 .left in
+    let past3 = c .before .before in
+    let past2 = past3 .before .before in
+    let past1 = past2 .before .before in
+    let variable = lt-leb _ _ (rw (past1 .before .before .variable-of .ensures) at (past1 .if1 .left)) in
+    let idle = sym (past2 .before .is-idle .ensures) ∙ not-false _ (past2 .if2 .left) in
+    let sequence = sym (past3 .before .lacks-sequence .ensures) ∙ past3 .if3 .left in
     let values = sym (c .before .values-right .ensures) ∙ not-true _ (c .if4 .taken) in
     rw (variable, idle, sequence, values)
 
 returns-5 : tie.Need-returns-5
 unfolding refusals.callCheck
 returns-5 c =
-    let variable = lt-leb _ _ (rw (c .before .before .before .before .before .before .before .before .variable-of .ensures) at (c .before .before .before .before .before .before .if1 .left)) in
-    let idle = sym (c .before .before .before .before .before .is-idle .ensures) ∙ not-false _ (c .before .before .before .before .if2 .left) in
-    let sequence = sym (c .before .before .before .lacks-sequence .ensures) ∙ c .before .before .if3 .left in
+    let past3 = c .before .before in
+    let past2 = past3 .before .before in
+    let past1 = past2 .before .before in
+    let variable = lt-leb _ _ (rw (past1 .before .before .variable-of .ensures) at (past1 .if1 .left)) in
+    let idle = sym (past2 .before .is-idle .ensures) ∙ not-false _ (past2 .if2 .left) in
+    let sequence = sym (past3 .before .lacks-sequence .ensures) ∙ past3 .if3 .left in
     let values = sym (c .before .values-right .ensures) ∙ not-false _ (c .if4 .left) in
     rw (variable, idle, sequence, values)
 
