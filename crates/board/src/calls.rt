@@ -7,8 +7,8 @@ ghost use Rattle.rules.specs.Bounds.{Sized};
 ghost use Rattle.rules.specs.GoodForm.{valueFits};
 ghost use Rattle.rules.specs.Processes.{isIdle};
 ghost use Rattle.rules.specs.Refusals.{variableOf, lacksSequence, allBlank, storable, valuesRight, callCheck};
-use form::is_open;
 use form::value_fits;
+use process::is_open;
 use rules::Call;
 use rules::Check;
 use rules::Place;
@@ -16,7 +16,7 @@ use rules::Process;
 use rules::Settings;
 use word::Refusal;
 
-pub(crate) fn is_idle(place: Place) -> bool
+fn is_idle(place: Place) -> bool
     ensures { λ r. ⌜ r ≡ isIdle place ⌝ }
 {
     match place {

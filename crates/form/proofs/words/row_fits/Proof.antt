@@ -40,8 +40,8 @@ returns c =
     let test : ℕ → Bool = λ j. form.valueFits (args .s) (announcedOf (args .s) (args .p) j (args .mem .now)) in
     let at = c .before .before .before in
     let found =
-        ap (λ (k : ℕ). form.valueFits (args .s) (getD (args .mem .now) k 0)) (sym (at .announce-at .ensures .0))
-        ∙ sym (c .before .value-fits .ensures) ∙ not-true _ (c .if1 .taken) in
+    ap (λ (k : ℕ). form.valueFits (args .s) (getD (args .mem .now) k 0)) (sym (at .announce-at .ensures .0))
+    ∙ sym (c .before .value-fits .ensures) ∙ not-true _ (c .if1 .taken) in
     sym (all-no test _ _ (at .before .loop-test .taken) found)
 
 add-i : tie.Need-add-i Inv-loop μ-loop
@@ -56,8 +56,8 @@ loop-again c =
     let test : ℕ → Bool = λ j. form.valueFits (args .s) (announcedOf (args .s) (args .p) j (args .mem .now)) in
     let at = c .before .before .before in
     let found =
-        ap (λ (k : ℕ). form.valueFits (args .s) (getD (args .mem .now) k 0)) (sym (at .announce-at .ensures .0))
-        ∙ sym (c .before .value-fits .ensures) ∙ not-false _ (c .if1 .left) in
+    ap (λ (k : ℕ). form.valueFits (args .s) (getD (args .mem .now) k 0)) (sym (at .announce-at .ensures .0))
+    ∙ sym (c .before .value-fits .ensures) ∙ not-false _ (c .if1 .left) in
     (omega arith, all-more test _ (at .before .before .loop .inv .1) found)
 
 returns-2 : tie.Need-returns-2 Inv-loop μ-loop

@@ -1,10 +1,12 @@
+use Rattle.rules.specs.Processes.{processAt}
+use Rattle.rules.proofs.Held as held
 use native.Mathlib.Omega.{arith}
 use Rattle.form.proofs.Fine as fine
-use Rattle.rules.specs.Refusals as refusals
+use Rattle.rules.specs.Entry as entry
 use mathlib.Core.Path.{_∙_, sym}
 use borrow.Author.Needs.{needs}
-use Rattle.board.proofs.checks.begin_check.Statement.{statement}
-use Rattle.board.proofs.checks.begin_check.Tie as tie
+use Rattle.board.proofs.open_count.Statement.{statement}
+use Rattle.board.proofs.open_count.Tie as tie
 
 process-check-requires : tie.Need-process-check-requires
 process-check-requires c κs = search needs
@@ -24,34 +26,34 @@ element-copy-out-p c =
     let served = fine.process-fine (args .t1) (args .me) (args .mem .now) (sym (c .before .before .process-check .ensures) ∙ c .enum-told .given .1) in
     omega arith
 
-call-check-requires : tie.Need-call-check-requires
-call-check-requires c κs =
+sequences-open-requires : tie.Need-sequences-open-requires
+sequences-open-requires c κs =
     let args = c .before .before .before .before .before .before .args in
     let served = fine.process-fine (args .t1) (args .me) (args .mem .now) (sym (c .before .before .before .process-check .ensures) ∙ c .before .enum-told .given .1) in
-    served .sizes
+    held.clauses (args .t1 .settings) (processAt (args .t1) (args .me)) (served .process) .sequences
 
 enum-known-check : tie.Need-enum-known-check
 enum-known-check c = search needs
 
 returns : tie.Need-returns
-unfolding refusals.beginCheck
+unfolding entry.openCountRule
 returns c =
-    let fine = sym (c .before .before .before .before .process-check .ensures) ∙ c .before .before .enum-told .given .1 in
-    c .call-check .ensures ∙ sym (rw fine)
+    let at = c .before .before in
+    rw (sym (at .before .before .process-check .ensures) ∙ at .enum-told .given .1, c .sequences-open .ensures)
 
 returns-2 : tie.Need-returns-2
-unfolding refusals.beginCheck
+unfolding entry.openCountRule
 returns-2 c = rw (sym (c .before .before .before .process-check .ensures) ∙ c .before .check .given .1)
 
-pub begin-check-spec : {M : Type 1} → statement M
-begin-check-spec =
+pub open-count-spec : {M : Type 1} → statement M
+open-count-spec =
     tie.close
     (tie.spec
     process-check-requires
     enum-told
     mul-p
     element-copy-out-p
-    call-check-requires
+    sequences-open-requires
     enum-known-check
     returns
     returns-2)
