@@ -112,13 +112,16 @@ pub fn call_check(s: Settings, p: Process, call: Call, values: [u64; 4]) -> Chec
     if variable_of(call) >= s.t {
         return Check::Refused(Refusal::NoSuchVariable);
     }
-    if !is_idle(place) {
+    let busy = !is_idle(place);
+    let lacks = lacks_sequence(call, p.opened);
+    let right = values_right(s, call, values);
+    if busy {
         return Check::Refused(Refusal::CallInProgress);
     }
-    if lacks_sequence(call, p.opened) {
+    if lacks {
         return Check::Refused(Refusal::NoOpenSequence);
     }
-    if !values_right(s, call, values) {
+    if !right {
         return Check::Refused(Refusal::ValueTooGreat);
     }
     Check::Fine

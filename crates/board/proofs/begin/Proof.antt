@@ -14,32 +14,28 @@ process-check-requires c κs = search needs
 enum-told : tie.Need-enum-told
 enum-told c = search needs
 
+-- past the check, the board can be served for the process
+served : (told : tie.After-enum-told) → fine.Served (told .before .before .before .before .before .args .t1) (told .before .before .before .before .before .args .me) (told .before .before .before .before .before .args .mem .now)
+served told =
+    let args = told .before .before .before .before .before .args in
+    fine.process-fine (args .t1) (args .me) (args .mem .now) (sym (told .before .before .process-check .ensures) ∙ told .enum-told .given .1)
+
 mul-p : tie.Need-mul-p
 mul-p c =
-    let told = c in
-    let args = told .before .before .before .before .before .args in
-    let served = fine.process-fine (args .t1) (args .me) (args .mem .now) (sym (told .before .before .process-check .ensures) ∙ told .enum-told .given .1) in
+    let now = served c in
     omega arith
 
 element-copy-out-p : tie.Need-element-copy-out-p
 element-copy-out-p c =
-    let told = c in
-    let args = told .before .before .before .before .before .args in
-    let served = fine.process-fine (args .t1) (args .me) (args .mem .now) (sym (told .before .before .process-check .ensures) ∙ told .enum-told .given .1) in
+    let now = served c in
     omega arith
 
 begin-process-requires : tie.Need-begin-process-requires
-begin-process-requires c κs =
-    let told = c .before in
-    let args = told .before .before .before .before .before .args in
-    let served = fine.process-fine (args .t1) (args .me) (args .mem .now) (sym (told .before .before .process-check .ensures) ∙ told .enum-told .given .1) in
-    served .sizes
+begin-process-requires c κs = served (c .before) .sizes
 
 put-back-requires : tie.Need-put-back-requires
 put-back-requires c κs =
-    let told = c .before .before in
-    let args = told .before .before .before .before .before .args in
-    let served = fine.process-fine (args .t1) (args .me) (args .mem .now) (sym (told .before .before .process-check .ensures) ∙ told .enum-told .given .1) in
+    let now = served (c .before .before) in
     omega arith
 
 enum-known-check : tie.Need-enum-known-check
