@@ -2,29 +2,13 @@
 use mathlib.Core.Path.{_≡_}
 use mathlib.Core.Bool.{Bool, true, false, cond, not, _&&_}
 use Prim.Native.Nat.{ℕ}
+pub use Rattle.rules.specs.Onlooker.{variableAt}
 use Rattle.rules.specs.Sizes.{wordAt, headerAt, segmentAt, announceAt}
 use Rattle.rules.specs.declared.Answer.{Answer}
 use Rattle.rules.specs.declared.Answer.the-variants.{Begun, Busy, Value, Witness, Yes, No, Refused}
 use Rattle.rules.specs.declared.Place.{Place}
 use Rattle.rules.specs.declared.Place.the-variants.{Idle, LoadReadsWord, ValidateReadsWord, StoreSwapsWord, LoadReadsHeader, ValidateReadsHeader, StoreReadsHeader, StoreAnnounces, StoreSwapsHeader, ReadsSegment, ReadsAnnounced, SwapsSegment, ReadsSegmentAgain, ReadsHeader}
 use Rattle.rules.specs.declared.Settings.{Settings}
-
--- the variable of a place; idle has none
-abbrev pub variableAt : Place → ℕ
-variableAt Idle = 0
-variableAt (LoadReadsWord x) = x
-variableAt (ValidateReadsWord x) = x
-variableAt (StoreSwapsWord x) = x
-variableAt (LoadReadsHeader x) = x
-variableAt (ValidateReadsHeader x) = x
-variableAt (StoreReadsHeader x) = x
-variableAt (StoreAnnounces x header i) = x
-variableAt (StoreSwapsHeader x header) = x
-variableAt (ReadsSegment c) = c .variable
-variableAt (ReadsAnnounced c read) = c .variable
-variableAt (SwapsSegment c read announced) = c .variable
-variableAt (ReadsSegmentAgain c) = c .variable
-variableAt (ReadsHeader c value) = c .variable
 
 -- a is the address that a step from the place may write; the other places write nothing
 abbrev pub Writes : Settings → ℕ → Place → ℕ → Type 0

@@ -38,3 +38,5 @@ pub use Rattle.rules.proofs.Leaves.{begin-no-other, step-no-other, begi
 pub use Rattle.rules.proofs.Leaves.{step-rest, step-length, step-past, step-word, step-header, step-segment, step-row}
 -- at the entry point: a load's first step opens its sequence, a store's answer closes it; no other variable's changes
 pub use Rattle.rules.proofs.Leaves.{step-own, step-sequence, step-sequences}
+-- demand 3: every answer is the atomic one, under the total premise and within a window; calls are as short as document 01 says
+pub use Rattle.rules.proofs.Demand3.Holds.{holds, in-window, window-of-few}
