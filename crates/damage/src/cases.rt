@@ -290,7 +290,7 @@ fn calls(k: usize) -> Case {
     c
 }
 
-pub fn case_of(f: usize, k: usize) -> Case {
+pub(crate) fn case_of(f: usize, k: usize) -> Case {
     match f {
         0 => places(0, k),
         1 => places(1, k),

@@ -3,7 +3,7 @@ use rules::Copy;
 use rules::Place;
 use rules::Process;
 
-pub fn place_of(code: usize, x: usize, header: u64, i: usize, value: u64) -> Place {
+pub(crate) fn place_of(code: usize, x: usize, header: u64, i: usize, value: u64) -> Place {
     let c = Copy {
         variable: x,
         header: header,
@@ -28,7 +28,7 @@ pub fn place_of(code: usize, x: usize, header: u64, i: usize, value: u64) -> Pla
     }
 }
 
-pub fn process_at(place: Place, opened: u16) -> Process {
+pub(crate) fn process_at(place: Place, opened: u16) -> Process {
     let keep = [0u64; 16];
     let values = [0u64; 4];
     let gathered = [0u64; 4];

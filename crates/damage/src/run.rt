@@ -114,7 +114,7 @@ fn lend(f: usize, k: usize, case: Case, all: &mut [u64]) {
     }
 }
 
-pub fn run(f: usize, k: usize, case: Case) {
+pub(crate) fn run(f: usize, k: usize, case: Case) {
     let mut all = [0u64; 160];
     lend(f, k, case, &mut all);
 }
