@@ -120,79 +120,105 @@ same-length : tie.Need-same-length
 same-length c = search needs
 
 returns-2 : tie.Need-returns-2
-returns-2 c = let at = c .before .before .before .before .before in from (at .before .before .before) (at .place .given .1) (c .before .before .load-reads-word .ensures)
+returns-2 c =
+    let at = c .before .before .before .before .before in
+    from (at .before .before .before) (at .place .given .1) (c .before .before .load-reads-word .ensures)
 
 same-length-2 : tie.Need-same-length-2
 same-length-2 c = search needs
 
 returns-3 : tie.Need-returns-3
-returns-3 c = let at = c .before .before .before .before .before in from (at .before .before .before) (at .place2 .given .1) (c .before .before .validate-reads-word .ensures)
+returns-3 c =
+    let at = c .before .before .before .before .before in
+    from (at .before .before .before) (at .place2 .given .1) (c .before .before .validate-reads-word .ensures)
 
 same-length-3 : tie.Need-same-length-3
 same-length-3 c = search needs
 
 returns-4 : tie.Need-returns-4
-returns-4 c = let at = c .before .before .before .before .before in from (at .before .before .before) (at .place3 .given .1) (c .before .before .store-swaps-word .ensures)
+returns-4 c =
+    let at = c .before .before .before .before .before in
+    from (at .before .before .before) (at .place3 .given .1) (c .before .before .store-swaps-word .ensures)
 
 same-length-4 : tie.Need-same-length-4
 same-length-4 c = search needs
 
 returns-5 : tie.Need-returns-5
-returns-5 c = let at = c .before .before .before .before .before in from (at .before .before .before) (at .place4 .given .1) (c .before .before .load-reads-header .ensures)
+returns-5 c =
+    let at = c .before .before .before .before .before in
+    from (at .before .before .before) (at .place4 .given .1) (c .before .before .load-reads-header .ensures)
 
 same-length-5 : tie.Need-same-length-5
 same-length-5 c = search needs
 
 returns-6 : tie.Need-returns-6
-returns-6 c = let at = c .before .before .before .before .before in from (at .before .before .before) (at .place5 .given .1) (c .before .before .validate-reads-header .ensures)
+returns-6 c =
+    let at = c .before .before .before .before .before in
+    from (at .before .before .before) (at .place5 .given .1) (c .before .before .validate-reads-header .ensures)
 
 same-length-6 : tie.Need-same-length-6
 same-length-6 c = search needs
 
 returns-7 : tie.Need-returns-7
-returns-7 c = let at = c .before .before .before .before .before in from (at .before .before .before) (at .place6 .given .1) (c .before .before .store-reads-header .ensures)
+returns-7 c =
+    let at = c .before .before .before .before .before in
+    from (at .before .before .before) (at .place6 .given .1) (c .before .before .store-reads-header .ensures)
 
 same-length-7 : tie.Need-same-length-7
 same-length-7 c = search needs
 
 returns-8 : tie.Need-returns-8
-returns-8 c = let at = c .before .before .before .before .before in from (at .before .before .before) (at .place7 .given .1) (c .before .before .store-announces .ensures)
+returns-8 c =
+    let at = c .before .before .before .before .before in
+    from (at .before .before .before) (at .place7 .given .1) (c .before .before .store-announces .ensures)
 
 same-length-8 : tie.Need-same-length-8
 same-length-8 c = search needs
 
 returns-9 : tie.Need-returns-9
-returns-9 c = let at = c .before .before .before .before .before in from (at .before .before .before) (at .place8 .given .1) (c .before .before .store-swaps-header .ensures)
+returns-9 c =
+    let at = c .before .before .before .before .before in
+    from (at .before .before .before) (at .place8 .given .1) (c .before .before .store-swaps-header .ensures)
 
 same-length-9 : tie.Need-same-length-9
 same-length-9 c = search needs
 
 returns-10 : tie.Need-returns-10
-returns-10 c = let at = c .before .before .before .before .before in from (at .before .before .before) (at .place9 .given .1) (c .before .before .reads-segment .ensures)
+returns-10 c =
+    let at = c .before .before .before .before .before in
+    from (at .before .before .before) (at .place9 .given .1) (c .before .before .reads-segment .ensures)
 
 same-length-10 : tie.Need-same-length-10
 same-length-10 c = search needs
 
 returns-11 : tie.Need-returns-11
-returns-11 c = let at = c .before .before .before .before .before in from (at .before .before .before) (at .place10 .given .1) (c .before .before .reads-announced .ensures)
+returns-11 c =
+    let at = c .before .before .before .before .before in
+    from (at .before .before .before) (at .place10 .given .1) (c .before .before .reads-announced .ensures)
 
 same-length-11 : tie.Need-same-length-11
 same-length-11 c = search needs
 
 returns-12 : tie.Need-returns-12
-returns-12 c = let at = c .before .before .before .before .before in from (at .before .before .before) (at .place11 .given .1) (c .before .before .swaps-segment .ensures)
+returns-12 c =
+    let at = c .before .before .before .before .before in
+    from (at .before .before .before) (at .place11 .given .1) (c .before .before .swaps-segment .ensures)
 
 same-length-12 : tie.Need-same-length-12
 same-length-12 c = search needs
 
 returns-13 : tie.Need-returns-13
-returns-13 c = let at = c .before .before .before .before .before in from (at .before .before .before) (at .place12 .given .1) (c .before .before .reads-segment-again .ensures)
+returns-13 c =
+    let at = c .before .before .before .before .before in
+    from (at .before .before .before) (at .place12 .given .1) (c .before .before .reads-segment-again .ensures)
 
 same-length-13 : tie.Need-same-length-13
 same-length-13 c = search needs
 
 returns-14 : tie.Need-returns-14
-returns-14 c = let at = c .before .before .before .before .before in from (at .before .before .before) (at .place13 .given .1) (c .before .before .reads-header .ensures)
+returns-14 c =
+    let at = c .before .before .before .before .before in
+    from (at .before .before .before) (at .place13 .given .1) (c .before .before .reads-header .ensures)
 
 pub process-step-spec : {M : Type 1} → statement M
 process-step-spec =
