@@ -104,7 +104,7 @@ fn values_right(s: Settings, call: Call, values: [u64; 4]) -> bool
     }
 }
 
-pub fn call_check(s: Settings, p: Process, call: Call, values: [u64; 4]) -> Check
+pub(crate) fn call_check(s: Settings, p: Process, call: Call, values: [u64; 4]) -> Check
     requires { ⌜ Sized s ⌝ }
     ensures { λ r. ⌜ r ≡ callCheck s p call values ⌝ }
 {

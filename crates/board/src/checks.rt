@@ -20,7 +20,7 @@ use rules::Settings;
 use word::Refusal;
 
 // 1 and 2, for so many words lent.
-pub fn sizes_check(s: Settings, lent: usize) -> Check
+pub(crate) fn sizes_check(s: Settings, lent: usize) -> Check
     ensures { λ r. ⌜ r ≡ sizesCheck s lent ⌝ }
 {
     if !settings_fit(s) {
@@ -48,7 +48,7 @@ fn form_check(board: Board, me: usize, mem: &[u64]) -> Check
 }
 
 // 1 to 4.
-pub fn process_check(board: Board, me: usize, mem: &[u64]) -> Check
+pub(crate) fn process_check(board: Board, me: usize, mem: &[u64]) -> Check
     ensures { λ r. ⌜ r ≡ processCheck board me (now (mem .entry)) ⌝ }
 {
     let s = board.settings;

@@ -9,7 +9,7 @@ use rules::Kind;
 use rules::Place;
 use rules::Settings;
 
-pub fn names(s: Settings, header: u64) -> bool
+pub(crate) fn names(s: Settings, header: u64) -> bool
     requires { ⌜ Sized s ⌝ }
     ensures { λ r. ⌜ r ≡ names s header ⌝ }
 {
@@ -91,7 +91,7 @@ fn value_held(s: Settings, opened: u16, c: Copy, value: u64) -> bool
     copy_held(s, opened, c) & value_fits(s, value)
 }
 
-pub fn place_fits(s: Settings, opened: u16, place: Place) -> bool
+pub(crate) fn place_fits(s: Settings, opened: u16, place: Place) -> bool
     requires { ⌜ Sized s ⌝ }
     ensures { λ r. ⌜ r ≡ placeFits s opened place ⌝ }
 {

@@ -58,7 +58,7 @@ fn open_fits(s: Settings, opened: u16) -> bool
     (opened as u64) < (1 << (s.t as u64))
 }
 
-pub fn process_fits(s: Settings, p: Process) -> bool
+pub(crate) fn process_fits(s: Settings, p: Process) -> bool
     requires { ⌜ Sized s ⌝ }
     ensures { λ r. ⌜ r ≡ processFits s p ⌝ }
 {
@@ -74,7 +74,7 @@ pub fn process_fits(s: Settings, p: Process) -> bool
     place & sequences & kept & values & gathered
 }
 
-pub fn processes_fit(board: Board) -> bool
+pub(crate) fn processes_fit(board: Board) -> bool
     requires { ⌜ Sized (board .settings) ⌝ }
     ensures { λ r. ⌜ r ≡ processesFit board ⌝ }
 {
