@@ -1,4 +1,13 @@
-// Schedule records by RFC 4180: their form, their fields as parts of the record, and the numbers in them.
+// Schedule records by RFC 4180: their form, their fields as parts of the record, the numbers in them, and what the
+// first record and the later ones say. A record is handed in with its closing CR LF where it has one, at any length.
+mod form;
+mod number;
+
+pub use form::body;
+pub use form::field;
+pub use form::in_form;
+pub use number::Number;
+pub use number::read_number;
 
 // The acts of document 01: LL, VL, SC and step.
 pub enum Act {

@@ -1,0 +1,5 @@
+pub mod Tests
+pub mod Splits
+pub mod Numbers
+pub mod Decimals
+pub mod RoundTrip

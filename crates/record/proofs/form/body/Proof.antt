@@ -1,0 +1,35 @@
+-- `body` meets its contract. Assumes nothing.
+use Prim.Native.Nat.{ℕ, _+_, _-_, _*_, _^_, _≤_, _<_}
+use mathlib.Core.Path.{_≡_, refl, ap, sym, _∙_}
+use native.Mathlib.Omega.{arith}
+use lib.ListN.{length, take, drop, getD}
+use Rattle.record.specs.Form.{bodyOf, bodyLength}
+use borrow.Author.Needs.{needs}
+use Rattle.record.proofs.form.body.Statement.{statement}
+use Rattle.record.proofs.form.body.Tie as tie
+use Rattle.record.proofs.form.body.Reads as reads
+use Rattle.record.proofs.form.body.Lts as lts
+use Rattle.record.proofs.form.body_length.Reads as body-length-reads
+
+body-length-requires : tie.Need-body-length-requires
+body-length-requires c κs = search needs
+
+sub-result : tie.Need-sub-result
+sub-result c = search needs
+
+part-result-start : tie.Need-part-result-start
+part-result-start c = search needs
+
+part-result-end : tie.Need-part-result-end
+part-result-end c = search needs
+
+returns : tie.Need-returns
+unfolding bodyOf
+returns c =
+    let s = c .before .before .before .args .bytes .now in
+    let e : c .before .body-length .result - 0 ≡ bodyLength s = omega arith in
+    ap (λ (n : ℕ). take n s) e
+
+pub body-spec : {M : Type 1} → statement M
+body-spec =
+    tie.close (tie.spec body-length-requires sub-result part-result-start part-result-end returns)

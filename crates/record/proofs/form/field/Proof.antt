@@ -1,0 +1,55 @@
+-- `field` meets its contract: the part from where field k starts to where it ends. Assumes nothing.
+use Prim.Native.Nat.{ℕ, _+_, _-_, _*_, _^_, _≤_, _<_}
+use mathlib.Core.Path.{_≡_, refl, ap, sym, _∙_}
+use native.Mathlib.Omega.{arith}
+use lib.ListN.{length, take, drop, getD}
+use Rattle.record.specs.Fields.{upToComma, partOf, fieldOf}
+use Rattle.record.proofs.Splits.{up-to-take}
+use borrow.Author.Needs.{needs}
+use Rattle.record.proofs.form.field.Statement.{statement}
+use Rattle.record.proofs.form.field.Tie as tie
+use Rattle.record.proofs.form.field.Reads as reads
+use Rattle.record.proofs.form.field.Lts as lts
+use Rattle.record.proofs.form.body.Reads as body-reads
+use Rattle.record.proofs.form.end_of.Reads as end-of-reads
+use Rattle.record.proofs.form.start_of.Reads as start-of-reads
+
+body-requires : tie.Need-body-requires
+body-requires c κs = search needs
+
+start-of-requires : tie.Need-start-of-requires
+start-of-requires c κs = search needs
+
+end-of-requires : tie.Need-end-of-requires
+end-of-requires c κs = search needs
+
+sub-result : tie.Need-sub-result
+sub-result c = search needs
+
+part-result-start : tie.Need-part-result-start
+part-result-start c = search needs
+
+part-result-end : tie.Need-part-result-end
+part-result-end c = search needs
+
+returns : tie.Need-returns
+unfolding fieldOf
+returns c =
+    let found = c .before .before in
+    let a = found .before .before .before .args in
+    let start = found .start-of .result in
+    let s = found .before .body .result .now in
+    let e : c .before .end-of .result - start ≡ length (upToComma (drop start s)) = omega arith in
+    rw e (up-to-take (drop start s) ∙ (found .start-of .ensures .1 ∙ ap (λ l. partOf l (a .k)) (found .before .body .ensures)))
+
+pub field-spec : {M : Type 1} → statement M
+field-spec =
+    tie.close
+    (tie.spec
+    body-requires
+    start-of-requires
+    end-of-requires
+    sub-result
+    part-result-start
+    part-result-end
+    returns)

@@ -1,0 +1,22 @@
+-- `number_at` meets its contract. Assumes nothing.
+use mathlib.Core.Path.{_≡_, refl, ap, sym, _∙_}
+use Rattle.record.specs.Number.{numberOf}
+use borrow.Author.Needs.{needs}
+use Rattle.record.proofs.number.number_at.Statement.{statement}
+use Rattle.record.proofs.number.number_at.Tie as tie
+use Rattle.record.proofs.number.number_at.Reads as reads
+use Rattle.record.proofs.number.number_at.Lts as lts
+use Rattle.record.proofs.form.field.Reads as field-reads
+use Rattle.record.proofs.number.read_number.Reads as read-number-reads
+
+field-requires : tie.Need-field-requires
+field-requires c κs = search needs
+
+read-number-requires : tie.Need-read-number-requires
+read-number-requires c κs = search needs
+
+returns : tie.Need-returns
+returns c = c .read-number .ensures ∙ ap numberOf (c .before .field .ensures)
+
+pub number-at-spec : {M : Type 1} → statement M
+number-at-spec = tie.close (tie.spec field-requires read-number-requires returns)

@@ -1,0 +1,5 @@
+pub mod Bytes
+pub mod Form
+pub mod Fields
+pub mod Number
+pub mod Decimal
