@@ -3,3 +3,5 @@ pub mod Splits
 pub mod Numbers
 pub mod Decimals
 pub mod RoundTrip
+pub mod SameBytes
+pub mod BlankFields

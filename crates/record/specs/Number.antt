@@ -53,3 +53,8 @@ numberIn TooGreat = NotInForm
 -- the number in a field
 unfoldable pub numberOf : List ℕ → Number
 numberOf s = numberIn (numberCase s)
+
+-- with the number that was read, or what stands for none
+abbrev pub withNumber {ℓ} : {A : Type ℓ} → Number → A → (ℕ → A) → A
+withNumber (Value n) none some = some n
+withNumber NotInForm none some = none

@@ -2,12 +2,20 @@
 // first record and the later ones say. A record is handed in with its closing CR LF where it has one, at any length.
 mod form;
 mod number;
+mod setup;
+mod words;
 
 pub use form::body;
 pub use form::field;
 pub use form::in_form;
 pub use number::Number;
 pub use number::read_number;
+pub use setup::SettingsRead;
+pub use setup::read_settings;
+pub use words::ActRead;
+pub use words::KindRead;
+pub use words::read_act;
+pub use words::read_kind;
 
 // The acts of document 01: LL, VL, SC and step.
 pub enum Act {

@@ -1,0 +1,74 @@
+-- `read_settings` meets its contract: 10 first, then the fields. Assumes nothing.
+use mathlib.Core.Path.{_≡_, refl, ap, sym, _∙_}
+use borrow.Author.Tests.{not-true, not-false}
+use Rattle.record.specs.Words.{kindOf}
+use Rattle.record.specs.Setup.{settingsOf}
+use borrow.Author.Needs.{needs}
+use Rattle.record.proofs.setup.read_settings.Statement.{statement}
+use Rattle.record.proofs.setup.read_settings.Tie as tie
+use Rattle.record.proofs.setup.read_settings.Reads as reads
+use Rattle.record.proofs.setup.read_settings.Lts as lts
+use Rattle.record.proofs.form.field.Reads as field-reads
+use Rattle.record.proofs.form.in_form.Reads as in-form-reads
+use Rattle.record.proofs.number.number_at.Reads as number-at-reads
+use Rattle.record.proofs.setup.blank_from.Reads as blank-from-reads
+use Rattle.record.proofs.setup.settings_from.Reads as settings-from-reads
+use Rattle.record.proofs.words.read_kind.Reads as read-kind-reads
+
+in-form-requires : tie.Need-in-form-requires
+in-form-requires c κs = search needs
+
+returns : tie.Need-returns
+unfolding settingsOf
+returns c = rw (sym (c .before .in-form .ensures) ∙ not-true _ (c .if1 .taken))
+
+number-at-requires : tie.Need-number-at-requires
+number-at-requires c κs = search needs
+
+field-requires : tie.Need-field-requires
+field-requires c κs = search needs
+
+read-kind-requires : tie.Need-read-kind-requires
+read-kind-requires c κs = search needs
+
+number-at-requires-2 : tie.Need-number-at-requires-2
+number-at-requires-2 c κs = search needs
+
+number-at-requires-3 : tie.Need-number-at-requires-3
+number-at-requires-3 c κs = search needs
+
+number-at-requires-4 : tie.Need-number-at-requires-4
+number-at-requires-4 c κs = search needs
+
+blank-from-requires : tie.Need-blank-from-requires
+blank-from-requires c κs = search needs
+
+settings-from-requires : tie.Need-settings-from-requires
+settings-from-requires c κs = search needs
+
+returns-2 : tie.Need-returns-2
+unfolding settingsOf
+returns-2 c =
+    let b = c .before .before .before in
+    let kind = b .before .before in
+    let n = kind .before .before in
+    let formed = sym (n .before .before .in-form .ensures) ∙ not-false _ (n .before .if1 .left) in
+    let kind-read = kind .read-kind .ensures ∙ ap kindOf (kind .before .field .ensures) in
+    rw (formed, ← n .number-at .ensures, ← kind-read, ← b .before .number-at2 .ensures, ← b .number-at3 .ensures, ← c .before .before .number-at4 .ensures, ← c .before .blank-from .ensures)
+    (c .settings-from .ensures)
+
+pub read-settings-spec : {M : Type 1} → statement M
+read-settings-spec =
+    tie.close
+    (tie.spec
+    in-form-requires
+    returns
+    number-at-requires
+    field-requires
+    read-kind-requires
+    number-at-requires-2
+    number-at-requires-3
+    number-at-requires-4
+    blank-from-requires
+    settings-from-requires
+    returns-2)
