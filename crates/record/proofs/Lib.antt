@@ -5,3 +5,4 @@ pub mod Decimals
 pub mod RoundTrip
 pub mod SameBytes
 pub mod BlankFields
+pub mod Values

@@ -6,3 +6,4 @@ pub mod Decimal
 pub mod Words
 pub mod Blanks
 pub mod Setup
+pub mod Schedule

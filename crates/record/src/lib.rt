@@ -2,6 +2,7 @@
 // first record and the later ones say. A record is handed in with its closing CR LF where it has one, at any length.
 mod form;
 mod number;
+mod schedule;
 mod setup;
 mod words;
 
@@ -10,6 +11,9 @@ pub use form::field;
 pub use form::in_form;
 pub use number::Number;
 pub use number::read_number;
+pub use schedule::Entry;
+pub use schedule::ScheduleRead;
+pub use schedule::read_schedule;
 pub use setup::SettingsRead;
 pub use setup::read_settings;
 pub use words::ActRead;
