@@ -1,0 +1,56 @@
+-- What a process and the words are besides good form, as their declared types say it: lists of their lengths, and words of
+-- 64 bits where a step needs it. A call's new values are only read, so their length does not matter. Assumes nothing.
+use mathlib.Core.Path.{_≡_}
+use mathlib.Core.Bool.{true}
+use mathlib.Core.List.{List}
+use Prim.Native.Nat.{ℕ, _^_, _<_}
+use lib.ListN.{length, getD}
+use Rattle.rules.specs.GoodForm.{wordsFit}
+use Rattle.rules.specs.Processes.{processAt}
+use Rattle.rules.specs.Sizes.{wordsUsed}
+use Rattle.rules.specs.declared.Board.{Board}
+use Rattle.rules.specs.declared.Place.{Place}
+use Rattle.rules.specs.declared.Place.the-variants.{Idle, LoadReadsWord, ValidateReadsWord, StoreSwapsWord, LoadReadsHeader, ValidateReadsHeader, StoreReadsHeader, StoreAnnounces, StoreSwapsHeader, ReadsSegment, ReadsAnnounced, SwapsSegment, ReadsSegmentAgain, ReadsHeader}
+use Rattle.rules.specs.declared.Process.{Process}
+use Rattle.rules.specs.declared.Settings.{Settings}
+use Rattle.rules.proofs.Held.{Clauses}
+
+-- the header that a place holds, or 0
+abbrev pub heldHeader : Place → ℕ
+heldHeader Idle = 0
+heldHeader (LoadReadsWord x) = 0
+heldHeader (ValidateReadsWord x) = 0
+heldHeader (StoreSwapsWord x) = 0
+heldHeader (LoadReadsHeader x) = 0
+heldHeader (ValidateReadsHeader x) = 0
+heldHeader (StoreReadsHeader x) = 0
+heldHeader (StoreAnnounces x header i) = header
+heldHeader (StoreSwapsHeader x header) = header
+heldHeader (ReadsSegment c) = c .header
+heldHeader (ReadsAnnounced c read) = c .header
+heldHeader (SwapsSegment c read announced) = c .header
+heldHeader (ReadsSegmentAgain c) = c .header
+heldHeader (ReadsHeader c value) = c .header
+
+pub record Formed (p : Process) : Type 0 where
+  pub keep : length (p .keep) ≡ 16
+  pub gathered : length (p .gathered) ≡ 4
+  pub header : heldHeader (p .place) < 2 ^ 64
+
+-- each word used is below 2^64
+abbrev pub Bounded : Settings → List ℕ → Type 0
+Bounded s words = (a : ℕ) → a < wordsUsed s → getD words a 0 < 2 ^ 64
+
+pub record Shaped (board : Board) (words : List ℕ) : Type 0 where
+  pub processes : length (board .processes) ≡ 16
+  pub each : (i : ℕ) → i < 16 → Formed (processAt board i)
+  pub bounded : Bounded (board .settings) words
+
+-- a process in form and shape, and words in form and shape
+pub record Sound (s : Settings) (p : Process) : Type 0 where
+  pub form : Clauses s p
+  pub shape : Formed p
+
+pub record Clean (s : Settings) (words : List ℕ) : Type 0 where
+  pub fits : wordsFit s words ≡ true
+  pub bounded : Bounded s words
