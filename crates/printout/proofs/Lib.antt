@@ -1,0 +1,6 @@
+pub mod Puts
+pub mod Decimals
+pub mod Digits
+pub mod Rows
+pub mod Longest
+pub mod Cases

@@ -1,0 +1,33 @@
+-- What the writers leave in the lent bytes, and the place after what they wrote.
+use mathlib.Core.Path.{_≡_}
+use mathlib.Core.Bool.{cond}
+use mathlib.Core.List.{List}
+use Prim.Native.Nat.{ℕ, _+_, _-_}
+use lib.Dec.{leb}
+use lib.ListN.{length}
+use lib.Seq.{sets}
+use Rattle.printout.specs.Row.{heading, rowOf}
+use Rattle.printout.specs.declared.Row.{Row}
+
+-- the lent bytes after a writer, and the next place
+abbrev pub Written : Type 0
+Written = List ℕ × ℕ
+
+-- bytes from place `at` on, and no other byte changed; nothing at all where fewer than `room` bytes are lent from there on
+abbrev pub written : ℕ → List ℕ → List ℕ → ℕ → Written
+written room bytes lent at = cond (leb room (length lent - at)) (sets lent at bytes, at + length bytes) (lent, at)
+
+-- no row is longer
+abbrev pub longestRow : ℕ
+longestRow = 159
+
+abbrev pub putRow : Row → List ℕ → ℕ → Written
+putRow row = written longestRow (rowOf row)
+
+abbrev pub putHeading : List ℕ → ℕ → Written
+putHeading = written (length heading) heading
+
+-- a writer's own account: bytes from `at` on, and the place after them
+pub record Put (before : List ℕ) (at : ℕ) (bytes after : List ℕ) (next : ℕ) : Type 0 where
+  pub list : after ≡ sets before at bytes
+  pub place : next ≡ at + length bytes
