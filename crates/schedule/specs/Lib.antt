@@ -1,0 +1,6 @@
+pub mod Records
+pub mod Run
+pub mod Listing
+pub mod Gathering
+pub mod Feeding
+pub mod WholeInput
