@@ -1,0 +1,59 @@
+use Rattle.rules.specs.Processes.{processAt}
+use Rattle.rules.proofs.Held as held
+use native.Mathlib.Omega.{arith}
+use Rattle.form.proofs.Fine as fine
+use Rattle.rules.specs.Entry as entry
+use mathlib.Core.Path.{_∙_, sym}
+use borrow.Author.Needs.{needs}
+use Rattle.board.proofs.processes.open_count.Statement.{statement}
+use Rattle.board.proofs.processes.open_count.Tie as tie
+
+process-check-requires : tie.Need-process-check-requires
+process-check-requires c κs = search needs
+
+enum-told : tie.Need-enum-told
+enum-told c = search needs
+
+mul-p : tie.Need-mul-p
+mul-p c =
+    let args = c .before .before .before .before .before .args in
+    let served = fine.process-fine (args .t1) (args .me) (args .mem .now) (sym (c .before .before .process-check .ensures) ∙ c .enum-told .given .1) in
+    omega arith
+
+element-copy-out-p : tie.Need-element-copy-out-p
+element-copy-out-p c =
+    let args = c .before .before .before .before .before .args in
+    let served = fine.process-fine (args .t1) (args .me) (args .mem .now) (sym (c .before .before .process-check .ensures) ∙ c .enum-told .given .1) in
+    omega arith
+
+sequences-open-requires : tie.Need-sequences-open-requires
+sequences-open-requires c κs =
+    let args = c .before .before .before .before .before .before .args in
+    let served = fine.process-fine (args .t1) (args .me) (args .mem .now) (sym (c .before .before .before .process-check .ensures) ∙ c .before .enum-told .given .1) in
+    held.clauses (args .t1 .settings) (processAt (args .t1) (args .me)) (served .process) .sequences
+
+enum-known-check : tie.Need-enum-known-check
+enum-known-check c = search needs
+
+returns : tie.Need-returns
+unfolding entry.openCountRule
+returns c =
+    let at = c .before .before in
+    rw (sym (at .before .before .process-check .ensures) ∙ at .enum-told .given .1, c .sequences-open .ensures)
+
+returns-2 : tie.Need-returns-2
+unfolding entry.openCountRule
+returns-2 c = rw (sym (c .before .before .before .process-check .ensures) ∙ c .before .check .given .1)
+
+pub open-count-spec : {M : Type 1} → statement M
+open-count-spec =
+    tie.close
+    (tie.spec
+    process-check-requires
+    enum-told
+    mul-p
+    element-copy-out-p
+    sequences-open-requires
+    enum-known-check
+    returns
+    returns-2)

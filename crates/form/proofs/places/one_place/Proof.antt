@@ -1,0 +1,21 @@
+use Rattle.rules.specs.GoodForm as form
+use borrow.Author.Needs.{needs}
+use Rattle.form.proofs.places.one_place.Statement.{statement}
+use Rattle.form.proofs.places.one_place.Tie as tie
+
+enum-told : tie.Need-enum-told
+enum-told c = search needs
+
+enum-told-2 : tie.Need-enum-told-2
+enum-told-2 c = search needs
+
+returns : tie.Need-returns
+unfolding form.onePlace
+returns c = simp (c .before .enum-told .given .1)
+
+returns-2 : tie.Need-returns-2
+unfolding form.onePlace
+returns-2 c = simp (c .enum-told2 .given .1)
+
+pub one-place-spec : {M : Type 1} → statement M
+one-place-spec = tie.close (tie.spec enum-told enum-told-2 returns returns-2)

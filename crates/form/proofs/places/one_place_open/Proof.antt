@@ -1,0 +1,24 @@
+use native.Mathlib.Omega.{arith}
+use mathlib.Core.Path.{_∙_, sym}
+use Rattle.rules.proofs.Held as held
+use Rattle.rules.specs.GoodForm as form
+use borrow.Author.Needs.{needs}
+use Rattle.form.proofs.places.one_place_open.Statement.{statement}
+use Rattle.form.proofs.places.one_place_open.Tie as tie
+
+one-place-requires : tie.Need-one-place-requires
+one-place-requires c κs = search needs
+
+is-open-requires : tie.Need-is-open-requires
+is-open-requires c κs = omega (arith, held.one-in (c .before .before .args .s) (c .before .before .args .x) (sym (c .before .one-place .ensures) ∙ c .if1 .taken))
+
+returns : tie.Need-returns
+unfolding form.onePlaceOpen
+returns c = simp (c .is-open .ensures, sym (c .before .before .one-place .ensures) ∙ c .before .if1 .taken)
+
+returns-2 : tie.Need-returns-2
+unfolding form.onePlaceOpen
+returns-2 c = simp (sym (c .before .one-place .ensures) ∙ c .if1 .left)
+
+pub one-place-open-spec : {M : Type 1} → statement M
+one-place-open-spec = tie.close (tie.spec one-place-requires is-open-requires returns returns-2)

@@ -1,0 +1,25 @@
+use Rattle.rules.specs.Sizes as sizes
+use borrow.Author.Needs.{needs}
+use Rattle.form.proofs.sizes.settings_fit.Statement.{statement}
+use Rattle.form.proofs.sizes.settings_fit.Tie as tie
+
+between-requires : tie.Need-between-requires
+between-requires c κs = search needs
+
+between-requires-2 : tie.Need-between-requires-2
+between-requires-2 c κs = search needs
+
+bits-fit-requires : tie.Need-bits-fit-requires
+bits-fit-requires c κs = search needs
+
+segments-fit-requires : tie.Need-segments-fit-requires
+segments-fit-requires c κs = search needs
+
+returns : tie.Need-returns
+unfolding sizes.settingsFit
+returns c = rw (c .before .before .before .between .ensures, c .before .before .between2 .ensures, c .before .bits-fit .ensures, c .segments-fit .ensures)
+
+pub settings-fit-spec : {M : Type 1} → statement M
+settings-fit-spec =
+    tie.close
+    (tie.spec between-requires between-requires-2 bits-fit-requires segments-fit-requires returns)

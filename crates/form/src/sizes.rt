@@ -1,0 +1,74 @@
+// Document 01's sizes: which settings stand, how many words they use, and where the words that good form looks at lie.
+ghost use mathlib.Core.Path.{_≡_};
+ghost use Prim.Native.Nat.{_<_};
+ghost use Rattle.rules.specs.Bounds.{Sized};
+ghost use Rattle.rules.specs.Sizes.{between, segmentsFit, settingsFit, wordsUsed, usedBy, headerAt, announceAt};
+ghost use Rattle.rules.specs.declared.Kind.the-variants.{Many};
+ghost use Rattle.word.specs.Word.{bitsFit};
+use rules::Kind;
+use rules::Settings;
+use word::Layout;
+
+fn between(least: usize, most: usize, k: usize) -> bool
+    ensures { λ r. ⌜ r ≡ between least most k ⌝ }
+{
+    if least <= k {
+        return k <= most;
+    }
+    false
+}
+
+fn bits_fit(bits: u64) -> bool
+    ensures { λ r. ⌜ r ≡ bitsFit bits ⌝ }
+{
+    if Layout::LEAST_BITS <= bits {
+        return bits <= Layout::MOST_BITS;
+    }
+    false
+}
+
+fn segments_fit(kind: Kind, w: usize) -> bool
+    ensures { λ r. ⌜ r ≡ segmentsFit kind w ⌝ }
+{
+    match kind {
+        Kind::One => w == 1,
+        Kind::Many => between(1, 4, w),
+    }
+}
+
+pub fn settings_fit(s: Settings) -> bool
+    ensures { λ r. ⌜ r ≡ settingsFit s ⌝ }
+{
+    let kind = s.kind;
+    let processes = between(1, 16, s.n);
+    let variables = between(1, 16, s.t);
+    let bits = bits_fit(s.layout.bits);
+    let segments = segments_fit(kind, s.w);
+    processes & variables & bits & segments
+}
+
+// Within the sizes, so that no product is too great.
+pub fn words_used(s: Settings) -> usize
+    requires { ⌜ Sized s ⌝ }
+    ensures { λ r. ⌜ r ≡ wordsUsed s ⌝ }
+{
+    let kind = s.kind;
+    match kind {
+        Kind::One => s.t,
+        Kind::Many => s.t * (1 + s.w) + s.n * s.w,
+    }
+}
+
+pub fn header_at(s: Settings, x: usize) -> usize
+    requires { ⌜ Sized s × (x < s .t) ⌝ }
+    ensures { λ r. ⌜ (r ≡ headerAt s x) × (r < usedBy Many s) ⌝ }
+{
+    x * (1 + s.w)
+}
+
+pub fn announce_at(s: Settings, p: usize, i: usize) -> usize
+    requires { ⌜ Sized s × (p < s .n) × (i < s .w) ⌝ }
+    ensures { λ r. ⌜ (r ≡ announceAt s p i) × (r < usedBy Many s) ⌝ }
+{
+    s.t * (1 + s.w) + p * s.w + i
+}
