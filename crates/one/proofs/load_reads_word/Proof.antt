@@ -1,0 +1,36 @@
+use borrow.Author.Needs.{needs}
+use Rattle.one.proofs.load_reads_word.Statement.{statement}
+use Rattle.one.proofs.load_reads_word.Tie as tie
+
+mul-word : tie.Need-mul-word
+mul-word c = search needs
+
+slice-read-word : tie.Need-slice-read-word
+slice-read-word c = search needs
+
+value-of-requires : tie.Need-value-of-requires
+value-of-requires c κs = search needs
+
+keeping-requires : tie.Need-keeping-requires
+keeping-requires c κs = search needs
+
+opening-requires : tie.Need-opening-requires
+opening-requires c κs = search needs
+
+ends-with-requires : tie.Need-ends-with-requires
+ends-with-requires c κs = search needs
+
+returns : tie.Need-returns
+returns c = simp (c .ends-with .ensures, c .before .opening .ensures, c .before .before .keeping .ensures, c .before .before .before .value-of .ensures)
+
+pub load-reads-word-spec : {M : Type 1} → statement M
+load-reads-word-spec =
+    tie.close
+    (tie.spec
+    mul-word
+    slice-read-word
+    value-of-requires
+    keeping-requires
+    opening-requires
+    ends-with-requires
+    returns)

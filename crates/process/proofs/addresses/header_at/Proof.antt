@@ -1,0 +1,17 @@
+use native.Mathlib.Omega.{arith}
+use Rattle.rules.proofs.Addresses.{header-in, used-most}
+use borrow.Author.Needs.{needs}
+use Rattle.process.proofs.addresses.header_at.Statement.{statement}
+use Rattle.process.proofs.addresses.header_at.Tie as tie
+
+add-result : tie.Need-add-result
+add-result c = search needs
+
+mul-result : tie.Need-mul-result
+mul-result c = let z = c .before .pre .0 in omega (arith, header-in _ z (c .before .pre .1), used-most _ z)
+
+returns : tie.Need-returns
+returns c = (search needs, header-in _ (c .before .pre .0) (c .before .pre .1))
+
+pub header-at-spec : {M : Type 1} → statement M
+header-at-spec = tie.close (tie.spec add-result mul-result returns)

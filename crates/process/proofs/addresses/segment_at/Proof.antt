@@ -1,0 +1,23 @@
+use native.Mathlib.Omega.{arith}
+use Rattle.rules.proofs.Addresses.{segment-in, used-most}
+use borrow.Author.Needs.{needs}
+use Rattle.process.proofs.addresses.segment_at.Statement.{statement}
+use Rattle.process.proofs.addresses.segment_at.Tie as tie
+
+add-result : tie.Need-add-result
+add-result c = search needs
+
+mul-result : tie.Need-mul-result
+mul-result c = let h = c .before .pre in omega (arith, segment-in _ (h .0) (h .1) (h .2), used-most _ (h .0))
+
+add-result-2 : tie.Need-add-result-2
+add-result-2 c = let h = c .before .pre in omega (arith, segment-in _ (h .0) (h .1) (h .2), used-most _ (h .0))
+
+add-result-3 : tie.Need-add-result-3
+add-result-3 c = let h = c .before .pre in omega (arith, segment-in _ (h .0) (h .1) (h .2), used-most _ (h .0))
+
+returns : tie.Need-returns
+returns c = let h = c .before .pre in (search needs, segment-in _ (h .0) (h .1) (h .2))
+
+pub segment-at-spec : {M : Type 1} → statement M
+segment-at-spec = tie.close (tie.spec add-result mul-result add-result-2 add-result-3 returns)
