@@ -27,7 +27,11 @@ word-of-requires c κs =
     (search needs, search needs, search needs, start .pre .2)
 
 returns : tie.Need-returns
-returns c = simp (c .word-of .ensures, c .before .before .next-tag .ensures, c .before .before .before .tag-of .ensures, c .before .before .before .before .kept-of .ensures)
+returns c =
+    let next = c .before .before .next-tag .ensures in
+    let old = c .before .before .before .tag-of .ensures in
+    let kept = c .before .before .before .before .kept-of .ensures in
+    simp (c .word-of .ensures, next, old, kept)
 
 pub new-word-spec : {M : Type 1} → statement M
 new-word-spec =

@@ -32,7 +32,9 @@ same-length : tie.Need-same-length
 same-length c = search needs
 
 returns : tie.Need-returns
-returns c = rw (c .ends .ensures, c .before .closing .ensures, c .before .before .new-word .ensures, ← c .before .before .before .before .before .kept-of .ensures, eq-eqb _ _ (c .before .before .before .if1 .taken))
+returns c =
+    let kept = c .before .before .before .before .before .kept-of .ensures in
+    rw (c .ends .ensures, c .before .closing .ensures, c .before .before .new-word .ensures, ← kept, eq-eqb _ _ (c .before .before .before .if1 .taken))
 
 closing-requires-2 : tie.Need-closing-requires-2
 closing-requires-2 c κs = search needs
@@ -41,7 +43,9 @@ ends-requires-2 : tie.Need-ends-requires-2
 ends-requires-2 c κs = search needs
 
 returns-2 : tie.Need-returns-2
-returns-2 c = simp (c .ends2 .ensures, c .before .closing2 .ensures, sym (c .before .before .before .before .kept-of .ensures), ne-eqb _ _ (c .before .before .if1 .left))
+returns-2 c =
+    let kept = c .before .before .before .before .kept-of .ensures in
+    simp (c .ends2 .ensures, c .before .closing2 .ensures, sym kept, ne-eqb _ _ (c .before .before .if1 .left))
 
 pub store-swaps-word-spec : {M : Type 1} → statement M
 store-swaps-word-spec =
