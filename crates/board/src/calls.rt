@@ -7,8 +7,8 @@ ghost use Rattle.rules.specs.Bounds.{Sized};
 ghost use Rattle.rules.specs.GoodForm.{valueFits};
 ghost use Rattle.rules.specs.Processes.{isIdle};
 ghost use Rattle.rules.specs.Refusals.{variableOf, lacksSequence, allBlank, storable, valuesRight, callCheck};
-use form::is_open;
 use form::value_fits;
+use process::is_open;
 use rules::Call;
 use rules::Check;
 use rules::Place;
@@ -16,7 +16,7 @@ use rules::Process;
 use rules::Settings;
 use word::Refusal;
 
-pub(crate) fn is_idle(place: Place) -> bool
+fn is_idle(place: Place) -> bool
     ensures { λ r. ⌜ r ≡ isIdle place ⌝ }
 {
     match place {
@@ -112,13 +112,16 @@ pub fn call_check(s: Settings, p: Process, call: Call, values: [u64; 4]) -> Chec
     if variable_of(call) >= s.t {
         return Check::Refused(Refusal::NoSuchVariable);
     }
-    if !is_idle(place) {
+    let busy = !is_idle(place);
+    let lacks = lacks_sequence(call, p.opened);
+    let right = values_right(s, call, values);
+    if busy {
         return Check::Refused(Refusal::CallInProgress);
     }
-    if lacks_sequence(call, p.opened) {
+    if lacks {
         return Check::Refused(Refusal::NoOpenSequence);
     }
-    if !values_right(s, call, values) {
+    if !right {
         return Check::Refused(Refusal::ValueTooGreat);
     }
     Check::Fine

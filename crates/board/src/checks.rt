@@ -7,17 +7,14 @@ ghost use lib.Dec.{leb};
 ghost use lib.ListN.{length};
 ghost use Rattle.rules.specs.Bounds.{Sized};
 ghost use Rattle.rules.specs.GoodForm.{inGoodForm};
-ghost use Rattle.rules.specs.Refusals.{refuseIf, sizesCheck, processCheck, beginCheck, stepCheck};
+ghost use Rattle.rules.specs.Refusals.{refuseIf, sizesCheck, processCheck};
 ghost use Rattle.rules.specs.Sizes.{wordsUsed};
 ghost use Rattle.rules.specs.declared.Check.the-variants.{Fine};
 ghost use Rattle.word.specs.declared.Refusal.the-variants.{NotInGoodForm, NoSuchProcess};
-use crate::calls::call_check;
-use crate::calls::is_idle;
 use form::in_good_form;
 use form::settings_fit;
 use form::words_used;
 use rules::Board;
-use rules::Call;
 use rules::Check;
 use rules::Settings;
 use word::Refusal;
@@ -58,39 +55,6 @@ pub fn process_check(board: Board, me: usize, mem: &[u64]) -> Check
     let sizes = sizes_check(s, mem.len());
     match sizes {
         Check::Fine => form_check(board, me, mem),
-        Check::Refused(refusal) => Check::Refused(refusal),
-    }
-}
-
-// 1 to 8.
-pub fn begin_check(board: Board, me: usize, call: Call, values: [u64; 4], mem: &[u64]) -> Check
-    ensures { λ r. ⌜ r ≡ beginCheck board me call values (now (mem .entry)) ⌝ }
-{
-    let s = board.settings;
-    let check = process_check(board, me, mem);
-    match check {
-        Check::Fine => {
-            let p = board.processes[me];
-            call_check(s, p, call, values)
-        }
-        Check::Refused(refusal) => Check::Refused(refusal),
-    }
-}
-
-// 1, 2, 3, 4, 9.
-pub fn step_check(board: Board, me: usize, mem: &[u64]) -> Check
-    ensures { λ r. ⌜ r ≡ stepCheck board me (now (mem .entry)) ⌝ }
-{
-    let check = process_check(board, me, mem);
-    match check {
-        Check::Fine => {
-            let p = board.processes[me];
-            let place = p.place;
-            if is_idle(place) {
-                return Check::Refused(Refusal::ProcessIdle);
-            }
-            Check::Fine
-        }
         Check::Refused(refusal) => Check::Refused(refusal),
     }
 }

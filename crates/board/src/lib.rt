@@ -1,15 +1,101 @@
 // The entry points of a board: set-up, begin, step and open count, over every input. None has a `requires`: what cannot
 // be served is refused, by document 01's number and in its order, and is left as found.
-mod calls;
-mod checks;
-mod fresh;
-mod processes;
+ghost use mathlib.Core.Path.{_≡_};
+ghost use mathlib.Core.List.{List};
+ghost use Prim.Native.Nat.{ℕ, _<_};
+ghost use Rattle.board.specs.OneProcess.{laidBack};
+ghost use Rattle.rules.specs.Entry.{refusing, beginRule, stepRule, openCountRule};
+ghost use Rattle.rules.specs.declared.Answered.{Answered};
+use checks::process_check;
+use one_process::begin_process;
+use one_process::sequences_open;
+use rules::Answer;
+use rules::Answered;
+use rules::Board;
+use rules::Call;
+use rules::Check;
+use rules::Moved;
+use rules::OpenCount;
+use steps::process_step;
+use word::Refusal;
 
-pub use calls::call_check;
-pub use checks::begin_check;
-pub use checks::process_check;
-pub use checks::sizes_check;
-pub use checks::step_check;
+mod calls; // calls.rt: refusals 5 to 8, of a process and a call
+mod checks; // checks.rt: refusals 1 to 4, of a board
+mod fresh; // fresh.rt: set-up
+pub mod one_process; // one_process.rt: a begin and an open count of one process by value
+
 pub use fresh::set_up;
-pub use processes::open_count;
-pub use processes::sequences_open;
+
+fn refusing(board: Board, refusal: Refusal) -> Answered
+    ensures { λ r. ⌜ r ≡ refusing board refusal ⌝ }
+{
+    Answered {
+        board: board,
+        answer: Answer::Refused(refusal),
+        values: [0, 0, 0, 0],
+    }
+}
+
+// A process moved, laid back into its board.
+fn put_back(board: Board, me: usize, moved: Moved) -> Answered
+    requires { ⌜ me < 16 ⌝ }
+    ensures { λ r. ⌜ r ≡ laidBack board me moved ⌝ }
+{
+    let process = moved.process;
+    let answer = moved.answer;
+    let values = moved.values;
+    let mut after = board;
+    after.processes[me] = process;
+    Answered {
+        board: after,
+        answer: answer,
+        values: values,
+    }
+}
+
+// Process me begins a call. The words are read for the checks.
+pub fn begin(board: Board, me: usize, call: Call, values: [u64; 4], mem: &[u64]) -> Answered
+    ensures { λ r. ⌜ r ≡ beginRule board me call values (now (mem .entry)) ⌝ }
+{
+    let s = board.settings;
+    let check = process_check(board, me, mem);
+    match check {
+        Check::Fine => {
+            let p = board.processes[me];
+            let moved = begin_process(s, p, call, values);
+            put_back(board, me, moved)
+        }
+        Check::Refused(refusal) => refusing(board, refusal),
+    }
+}
+
+// Process me takes a step: one access to a shared word.
+pub fn step(board: Board, me: usize, mem: &mut [u64]) -> Answered
+    ensures { λ r. ⌜ _≡_ {A = Answered × List ℕ} (r, now (mem .exit)) (stepRule board me (now (mem .entry))) ⌝ }
+{
+    let s = board.settings;
+    let check = process_check(board, me, &mem[..]);
+    match check {
+        Check::Fine => {
+            let p = board.processes[me];
+            let moved = process_step(s, p, me, mem);
+            put_back(board, me, moved)
+        }
+        Check::Refused(refusal) => refusing(board, refusal),
+    }
+}
+
+// The number of variables on which process me has a sequence open.
+pub fn open_count(board: Board, me: usize, mem: &[u64]) -> OpenCount
+    ensures { λ r. ⌜ r ≡ openCountRule board me (now (mem .entry)) ⌝ }
+{
+    let s = board.settings;
+    let check = process_check(board, me, mem);
+    match check {
+        Check::Fine => {
+            let p = board.processes[me];
+            OpenCount::Open(sequences_open(s, p.opened))
+        }
+        Check::Refused(refusal) => OpenCount::Refused(refusal),
+    }
+}

@@ -9,16 +9,15 @@ use lib.ListN.{length}
 use borrow.Author.Tests.{not-false, ltb-false, leb-false}
 use Rattle.rules.specs.Bounds.{Sized}
 use Rattle.rules.specs.GoodForm.{processFits, processesFit, wordsFit, inGoodForm}
-use Rattle.rules.specs.Processes.{isIdle, processAt}
-use Rattle.rules.specs.Refusals.{refuseIf, andThen, sizesCheck, processCheck, stepCheck, callCheck, beginCheck}
+use Rattle.rules.specs.Processes.{processAt}
+use Rattle.rules.specs.Refusals.{refuseIf, andThen, sizesCheck, processCheck}
 use Rattle.rules.specs.Sizes.{settingsFit, wordsUsed}
 use Rattle.rules.specs.declared.Board.{Board}
-use Rattle.rules.specs.declared.Call.{Call}
 use Rattle.rules.specs.declared.Check.{Check}
 use Rattle.rules.specs.declared.Check.the-variants.{Fine, Refused}
 use Rattle.rules.specs.declared.Settings.{Settings}
 use Rattle.word.specs.declared.Refusal.{Refusal}
-use Rattle.word.specs.declared.Refusal.the-variants.{SettingOutsideSizes, MemoryTooShort, NotInGoodForm, NoSuchProcess, ProcessIdle}
+use Rattle.word.specs.declared.Refusal.the-variants.{SettingOutsideSizes, MemoryTooShort, NotInGoodForm, NoSuchProcess}
 use Rattle.rules.proofs.Tests.{and-left, all-at}
 use Rattle.rules.proofs.Sized.{sized}
 
@@ -73,19 +72,3 @@ module _ (board : Board) (me : ℕ) (words : List ℕ) where
         known = known;
         process = process-in-form in-form known;
       }
-
-  -- 1, 2, 3, 4, 9 are passed
-  pub step-fine : stepCheck board me words ≡ Fine → Served board me words × (isIdle (processAt board me .place) ≡ false)
-  unfolding stepCheck
-  step-fine e =
-      let last : Check = refuseIf (isIdle (processAt board me .place)) ProcessIdle Fine in
-      let both = then-fine (processCheck board me words) last e in
-      (process-fine (both .0), refuse-fine (isIdle (processAt board me .place)) ProcessIdle Fine (both .1) .0)
-
-  -- 1 to 8 are passed
-  pub begin-fine : (call : Call) (values : List ℕ) → beginCheck board me call values words ≡ Fine
-      → Served board me words × (callCheck (board .settings) (processAt board me) call values ≡ Fine)
-  unfolding beginCheck
-  begin-fine call values e =
-      let both = then-fine (processCheck board me words) (callCheck (board .settings) (processAt board me) call values) e in
-      (process-fine (both .0), both .1)

@@ -4,7 +4,6 @@ mod processes;
 mod sizes;
 mod words;
 
-pub use places::is_open;
 pub use places::place_fits;
 pub use places::value_fits;
 pub use processes::process_fits;

@@ -1,22 +1,13 @@
 // Good form of a place: it is one the kind has, its variable is below T and its segment below W, its sequence is open
 // where the call needs one, a held header names a process below N, and a held value fits.
 ghost use mathlib.Core.Path.{_≡_};
-ghost use Prim.Native.Nat.{_<_};
 ghost use Rattle.rules.specs.Bounds.{Sized};
 ghost use Rattle.rules.specs.GoodForm.{names, valueFits, onePlace, manyPlace, onePlaceOpen, manyPlaceOpen, headerHeld, segmentHeld, copyHeld, valueHeld, placeFits};
-ghost use Rattle.rules.specs.Processes.{isOpen};
+use process::is_open;
 use rules::Copy;
 use rules::Kind;
 use rules::Place;
 use rules::Settings;
-
-// Bit x of the mask. There are sixteen.
-pub fn is_open(mask: u16, x: usize) -> bool
-    requires { ⌜ x < 16 ⌝ }
-    ensures { λ r. ⌜ r ≡ isOpen mask x ⌝ }
-{
-    (mask >> (x as u16)) % 2 == 1
-}
 
 pub fn names(s: Settings, header: u64) -> bool
     requires { ⌜ Sized s ⌝ }

@@ -80,13 +80,13 @@ pub fn processes_fit(board: Board) -> bool
 {
     let s = board.settings;
     let n = s.n;
-    let mut i = 0;
-    while i < n {
-        let p = board.processes[i];
+    let mut me = 0;
+    while me < n {
+        let p = board.processes[me];
         if !process_fits(s, p) {
             return false;
         }
-        i += 1;
+        me += 1;
     }
     true
 }

@@ -1,9 +1,7 @@
-// Document 01's sizes: which settings stand, how many words they use, and where the words that good form looks at lie.
+// Document 01's sizes: which settings stand, and how many words they use.
 ghost use mathlib.Core.Path.{_≡_};
-ghost use Prim.Native.Nat.{_<_};
 ghost use Rattle.rules.specs.Bounds.{Sized};
-ghost use Rattle.rules.specs.Sizes.{between, segmentsFit, settingsFit, wordsUsed, usedBy, headerAt, announceAt};
-ghost use Rattle.rules.specs.declared.Kind.the-variants.{Many};
+ghost use Rattle.rules.specs.Sizes.{between, segmentsFit, settingsFit, wordsUsed};
 ghost use Rattle.word.specs.Word.{bitsFit};
 use rules::Kind;
 use rules::Settings;
@@ -57,18 +55,4 @@ pub fn words_used(s: Settings) -> usize
         Kind::One => s.t,
         Kind::Many => s.t * (1 + s.w) + s.n * s.w,
     }
-}
-
-pub fn header_at(s: Settings, x: usize) -> usize
-    requires { ⌜ Sized s × (x < s .t) ⌝ }
-    ensures { λ r. ⌜ (r ≡ headerAt s x) × (r < usedBy Many s) ⌝ }
-{
-    x * (1 + s.w)
-}
-
-pub fn announce_at(s: Settings, p: usize, i: usize) -> usize
-    requires { ⌜ Sized s × (p < s .n) × (i < s .w) ⌝ }
-    ensures { λ r. ⌜ (r ≡ announceAt s p i) × (r < usedBy Many s) ⌝ }
-{
-    s.t * (1 + s.w) + p * s.w + i
 }

@@ -11,10 +11,10 @@ use Rattle.form.proofs.processes.processes_fit.Statement.{statement}
 use Rattle.form.proofs.processes.processes_fit.Tie as tie
 
 abbrev Inv-loop : tie.InvT-loop
-Inv-loop board s n i₀ i = (i ≤ n) × (form.all i (λ j. form.processFits s (processAt board j)) ≡ true)
+Inv-loop board s n me₀ me = (me ≤ n) × (form.all me (λ j. form.processFits s (processAt board j)) ≡ true)
 
 abbrev μ-loop : tie.MeasureT-loop
-μ-loop board s n i₀ i = n - i
+μ-loop board s n me₀ me = n - me
 
 loop-holds : tie.Need-loop-holds Inv-loop μ-loop
 unfolding form.all
@@ -36,8 +36,8 @@ returns c =
     let test : ℕ → Bool = λ j. form.processFits (board .settings) (processAt board j) in
     sym (all-no test _ _ (c .before .before .before .loop-test .taken) (sym (c .before .process-fits .ensures) ∙ not-true _ (c .if1 .taken)))
 
-add-i : tie.Need-add-i Inv-loop μ-loop
-add-i c = omega arith
+add-me : tie.Need-add-me Inv-loop μ-loop
+add-me c = omega arith
 
 loop-less : tie.Need-loop-less Inv-loop μ-loop
 loop-less c = omega arith
@@ -51,7 +51,7 @@ loop-again c =
 returns-2 : tie.Need-returns-2 Inv-loop μ-loop
 unfolding form.processesFit
 returns-2 c =
-    let through : c .before .loop .i ≡ c .before .before .before .args .t1 .settings .n = omega arith in
+    let through : c .before .loop .me ≡ c .before .before .before .args .t1 .settings .n = omega arith in
     sym (rw through at (c .before .loop .inv .1))
 
 pub processes-fit-spec : {M : Type 1} → statement M
@@ -65,7 +65,7 @@ processes-fit-spec =
     element-copy-out-p
     process-fits-requires
     returns
-    add-i
+    add-me
     loop-less
     loop-again
     returns-2)

@@ -39,7 +39,10 @@ returns c =
     let args = c .before .before .before .before .before .before .before .args in
     let test : ℕ → Bool = λ j. form.names (args .s) (headerOf (args .s) j (args .mem .now)) in
     let at = c .before .before .before in
-    sym (all-no test _ _ (at .before .loop-test .taken) (ap (λ (k : ℕ). form.names (args .s) (getD (args .mem .now) k 0)) (sym (at .header-at .ensures .0)) ∙ sym (c .before .names .ensures) ∙ not-true _ (c .if1 .taken)))
+    let found =
+    ap (λ (k : ℕ). form.names (args .s) (getD (args .mem .now) k 0)) (sym (at .header-at .ensures .0))
+    ∙ sym (c .before .names .ensures) ∙ not-true _ (c .if1 .taken) in
+    sym (all-no test _ _ (at .before .loop-test .taken) found)
 
 add-x : tie.Need-add-x Inv-loop μ-loop
 add-x c = omega arith
@@ -52,7 +55,10 @@ loop-again c =
     let args = c .before .before .before .before .before .before .before .args in
     let test : ℕ → Bool = λ j. form.names (args .s) (headerOf (args .s) j (args .mem .now)) in
     let at = c .before .before .before in
-    (omega arith, all-more test _ (at .before .before .loop .inv .1) (ap (λ (k : ℕ). form.names (args .s) (getD (args .mem .now) k 0)) (sym (at .header-at .ensures .0)) ∙ sym (c .before .names .ensures) ∙ not-false _ (c .if1 .left)))
+    let found =
+    ap (λ (k : ℕ). form.names (args .s) (getD (args .mem .now) k 0)) (sym (at .header-at .ensures .0))
+    ∙ sym (c .before .names .ensures) ∙ not-false _ (c .if1 .left) in
+    (omega arith, all-more test _ (at .before .before .loop .inv .1) found)
 
 returns-2 : tie.Need-returns-2 Inv-loop μ-loop
 unfolding form.headersFit

@@ -1,8 +1,8 @@
 use Rattle.rules.specs.GoodForm as form
 use borrow.Author.Tests.{ltb-true}
 use Rattle.rules.proofs.Masks.{counted}
-use Rattle.board.proofs.processes.sequences_open.Statement.{statement}
-use Rattle.board.proofs.processes.sequences_open.Tie as tie
+use Rattle.board.proofs.one_process.sequences_open.Statement.{statement}
+use Rattle.board.proofs.one_process.sequences_open.Tie as tie
 
 returns : tie.Need-returns
 unfolding form.openFits

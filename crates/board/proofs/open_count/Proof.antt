@@ -5,8 +5,8 @@ use Rattle.form.proofs.Fine as fine
 use Rattle.rules.specs.Entry as entry
 use mathlib.Core.Path.{_∙_, sym}
 use borrow.Author.Needs.{needs}
-use Rattle.board.proofs.processes.open_count.Statement.{statement}
-use Rattle.board.proofs.processes.open_count.Tie as tie
+use Rattle.board.proofs.open_count.Statement.{statement}
+use Rattle.board.proofs.open_count.Tie as tie
 
 process-check-requires : tie.Need-process-check-requires
 process-check-requires c κs = search needs
@@ -14,23 +14,27 @@ process-check-requires c κs = search needs
 enum-told : tie.Need-enum-told
 enum-told c = search needs
 
+-- past the check, the board can be served for the process
+served : (told : tie.After-enum-told) → fine.Served (told .before .before .before .before .before .args .t1) (told .before .before .before .before .before .args .me) (told .before .before .before .before .before .args .mem .now)
+served told =
+    let args = told .before .before .before .before .before .args in
+    fine.process-fine (args .t1) (args .me) (args .mem .now) (sym (told .before .before .process-check .ensures) ∙ told .enum-told .given .1)
+
 mul-p : tie.Need-mul-p
 mul-p c =
-    let args = c .before .before .before .before .before .args in
-    let served = fine.process-fine (args .t1) (args .me) (args .mem .now) (sym (c .before .before .process-check .ensures) ∙ c .enum-told .given .1) in
+    let now = served c in
     omega arith
 
 element-copy-out-p : tie.Need-element-copy-out-p
 element-copy-out-p c =
-    let args = c .before .before .before .before .before .args in
-    let served = fine.process-fine (args .t1) (args .me) (args .mem .now) (sym (c .before .before .process-check .ensures) ∙ c .enum-told .given .1) in
+    let now = served c in
     omega arith
 
 sequences-open-requires : tie.Need-sequences-open-requires
 sequences-open-requires c κs =
-    let args = c .before .before .before .before .before .before .args in
-    let served = fine.process-fine (args .t1) (args .me) (args .mem .now) (sym (c .before .before .before .process-check .ensures) ∙ c .before .enum-told .given .1) in
-    held.clauses (args .t1 .settings) (processAt (args .t1) (args .me)) (served .process) .sequences
+    let at = c .before in
+    let args = at .before .before .before .before .before .args in
+    held.clauses (args .t1 .settings) (processAt (args .t1) (args .me)) (served at .process) .sequences
 
 enum-known-check : tie.Need-enum-known-check
 enum-known-check c = search needs
