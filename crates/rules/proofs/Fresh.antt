@@ -22,7 +22,7 @@ use Rattle.rules.specs.declared.Check.the-variants.{Fine}
 use Rattle.rules.specs.declared.Kind.{Kind}
 use Rattle.rules.specs.declared.Kind.the-variants.{One, Many}
 use Rattle.rules.specs.declared.Settings.{Settings}
-use Rattle.rules.proofs.Accepted.{stands}
+use Rattle.rules.proofs.Checked.{stands}
 use Rattle.rules.proofs.Addresses.{header-in, announce-in}
 use Rattle.rules.proofs.Held.{in-form}
 use Rattle.rules.proofs.Keeps.{InForm}

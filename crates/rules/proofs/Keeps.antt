@@ -15,8 +15,8 @@ use Rattle.rules.specs.declared.Call.{Call}
 use Rattle.rules.specs.declared.Check.{Check}
 use Rattle.rules.specs.declared.Check.the-variants.{Fine}
 use Rattle.rules.specs.declared.Process.{Process}
-use Rattle.rules.proofs.Accepted.{step-accepted, begin-accepted}
-use Rattle.rules.proofs.Begins.{begins}
+use Rattle.rules.proofs.Checked.{step-accepted, begin-accepted}
+use Rattle.rules.proofs.FirstPlace.{begins}
 use Rattle.rules.proofs.Branches.{after-set}
 use Rattle.rules.proofs.Held.{clauses, in-form}
 use Rattle.rules.proofs.Kept.{kept}

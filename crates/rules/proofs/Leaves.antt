@@ -1,22 +1,27 @@
--- At the entry points: what a begin and a step leave alone, accepted or refused. Assumes nothing.
-use mathlib.Core.Path.{_≡_, refl}
+-- At the entry points: what a begin and a step leave alone, accepted or refused, and what an accepted step makes of its own
+-- process. Assumes nothing.
+use mathlib.Core.Path.{_≡_, refl, sym, ap, _∙_}
 use mathlib.Core.List.{List}
 use Prim.Native.Nat.{ℕ, _≤_, _<_}
 use native.Mathlib.Omega.{arith}
 use lib.ListN.{length, getD}
-use lib.Seq.{getD-set-other}
+use lib.Seq.{getD-set-same, getD-set-other}
 use Rattle.rules.specs.Entry.{beginRule, beginBy, stepRule, stepBy}
-use Rattle.rules.specs.Processes.{nobody, processAt}
+use Rattle.rules.specs.Processes.{isOpen, nobody, processAt}
 use Rattle.rules.specs.Refusals.{beginCheck, stepCheck}
 use Rattle.rules.specs.Sizes.{wordOf, headerOf, segmentOf, announcedOf, wordsUsed}
 use Rattle.rules.specs.Steps.{processStep}
+use Rattle.rules.specs.declared.Answer.{Answer}
 use Rattle.rules.specs.declared.Board.{Board}
 use Rattle.rules.specs.declared.Call.{Call}
 use Rattle.rules.specs.declared.Check.{Check}
 use Rattle.rules.specs.declared.Check.the-variants.{Fine, Refused}
 use Rattle.rules.specs.declared.Kind.the-variants.{One, Many}
-use Rattle.rules.proofs.Accepted.{Accepted, step-accepted}
-use Rattle.rules.proofs.Frame.{variableAt, framed}
+use Rattle.rules.specs.declared.Place.{Place}
+use Rattle.rules.specs.declared.Process.{Process}
+use Rattle.rules.proofs.Checked.{Accepted, step-accepted}
+use Rattle.rules.proofs.Frame.{framed}
+use Rattle.rules.proofs.Places.{variableAt, openAfter}
 use Rattle.rules.proofs.Held.{at-place}
 use Rattle.rules.proofs.Keeps.{process-fits}
 use Rattle.rules.proofs.Sized.{sized}
@@ -106,3 +111,37 @@ module _ (board : Board) (me : ℕ) (words : List ℕ) where
   pub step-row : (q j : ℕ) → j < board .settings .w → (q ≡ me → ⊥) → board .settings .kind ≡ Many
       → announcedOf (board .settings) q j (stepRule board me words .1) ≡ announcedOf (board .settings) q j words
   step-row q j hj ne many = step-rest _ (λ ok. writes-no-row (board .settings) me _ q j hj ne many)
+
+-- what an accepted step makes of its own process, on a board that holds it
+module _ (board : Board) (me : ℕ) (words : List ℕ) (there : me < length (board .processes)) (fine : stepCheck board me words ≡ Fine) where
+  pub step-own : processAt (stepRule board me words .0 .board) me
+      ≡ processStep (board .settings) (processAt board me) me words .0 .process
+  unfolding stepRule
+  step-own =
+      ap (λ (c : Check). processAt (stepBy c board me words .0 .board) me) fine ∙ getD-set-same (board .processes) me _ nobody there
+
+  pub step-answer : stepRule board me words .0 .answer ≡ processStep (board .settings) (processAt board me) me words .0 .answer
+  unfolding stepRule
+  step-answer = ap (λ (c : Check). stepBy c board me words .0 .answer) fine
+
+  -- a load opens its sequence at its first step, a store closes it at its answer, every other step leaves it
+  pub step-sequence :
+      let l : Place = processAt board me .place in
+      isOpen (processAt (stepRule board me words .0 .board) me .opened) (variableAt l)
+      ≡ openAfter l (stepRule board me words .0 .answer) (isOpen (processAt board me .opened) (variableAt l))
+  unfolding processStep
+  step-sequence =
+      let l : Place = processAt board me .place in
+      let frame = framed l (board .settings) (processAt board me) me words (step-accepted board me words fine .1) in
+      ap (λ (p : Process). isOpen (p .opened) (variableAt l)) step-own
+      ∙ frame .own .sequence
+      ∙ ap (λ (a : Answer). openAfter l a (isOpen (processAt board me .opened) (variableAt l))) (sym step-answer)
+
+  -- and it leaves the sequences on all other variables
+  pub step-sequences : (y : ℕ) → (y ≡ variableAt (processAt board me .place) → ⊥)
+      → isOpen (processAt (stepRule board me words .0 .board) me .opened) y ≡ isOpen (processAt board me .opened) y
+  unfolding processStep
+  step-sequences y ne =
+      let l : Place = processAt board me .place in
+      let frame = framed l (board .settings) (processAt board me) me words (step-accepted board me words fine .1) in
+      ap (λ (p : Process). isOpen (p .opened) y) step-own ∙ frame .own .sequences y ne

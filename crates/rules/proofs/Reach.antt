@@ -1,6 +1,6 @@
 -- Where a step may write: at the word of its variable, its header or one of its segments, or in the own announce row. So
 -- never past the words used, nor at another variable's words or another process's row. Assumes nothing.
-use mathlib.Core.Path.{_≡_, sym, subst}
+use mathlib.Core.Path.{_≡_, sym, _∙_, subst}
 use mathlib.Core.Bool.{true}
 use Prim.Native.Nat.{ℕ, _<_}
 use Rattle.rules.specs.Bounds.{Sized}
@@ -12,7 +12,7 @@ use Rattle.rules.specs.declared.Place.{Place}
 use Rattle.rules.specs.declared.Place.the-variants.{Idle, LoadReadsWord, ValidateReadsWord, StoreSwapsWord, LoadReadsHeader, ValidateReadsHeader, StoreReadsHeader, StoreAnnounces, StoreSwapsHeader, ReadsSegment, ReadsAnnounced, SwapsSegment, ReadsSegmentAgain, ReadsHeader}
 use Rattle.rules.specs.declared.Settings.{Settings}
 use Rattle.rules.proofs.Addresses as addresses
-use Rattle.rules.proofs.Frame.{variableAt, Writes}
+use Rattle.rules.proofs.Places.{variableAt, Writes}
 use Rattle.rules.proofs.Held as held
 use Rattle.rules.proofs.Written.{kind-one, kind-many, one-not-many}
 
@@ -22,6 +22,23 @@ pub data Where (s : Settings) (me : ℕ) (l : Place) (a : ℕ) : Type 0 where
   row : (i : ℕ) → s .kind ≡ Many → i < s .w → a ≡ announceAt s me i → Where s me l a
   header : s .kind ≡ Many → variableAt l < s .t → a ≡ headerAt s (variableAt l) → Where s me l a
   segment : (i : ℕ) → s .kind ≡ Many → variableAt l < s .t → i < s .w → a ≡ segmentAt s (variableAt l) i → Where s me l a
+
+-- a step writes at most one word
+pub one-word : (s : Settings) (me : ℕ) (l : Place) (a b : ℕ) → Writes s me l a → Writes s me l b → a ≡ b
+one-word s me Idle a b v w = absurd v
+one-word s me (LoadReadsWord x) a b v w = absurd v
+one-word s me (ValidateReadsWord x) a b v w = absurd v
+one-word s me (StoreSwapsWord x) a b v w = v ∙ sym w
+one-word s me (LoadReadsHeader x) a b v w = absurd v
+one-word s me (ValidateReadsHeader x) a b v w = absurd v
+one-word s me (StoreReadsHeader x) a b v w = absurd v
+one-word s me (StoreAnnounces x h i) a b v w = v ∙ sym w
+one-word s me (StoreSwapsHeader x h) a b v w = v ∙ sym w
+one-word s me (ReadsSegment c) a b v w = absurd v
+one-word s me (ReadsAnnounced c read) a b v w = absurd v
+one-word s me (SwapsSegment c read announced) a b v w = v ∙ sym w
+one-word s me (ReadsSegmentAgain c) a b v w = absurd v
+one-word s me (ReadsHeader c value) a b v w = absurd v
 
 module _ (s : Settings) (opened me : ℕ) where
   pub place-writes : (l : Place) (a : ℕ) → placeFits s opened l ≡ true → Writes s me l a → Where s me l a

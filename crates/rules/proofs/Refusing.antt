@@ -6,7 +6,7 @@ use mathlib.Core.List.{List}
 use Prim.Native.Nat.{ℕ}
 use native.Mathlib.Omega.{arith}
 use lib.ListN.{length}
-use Rattle.rules.specs.Entry.{blankBoard, refusing, setUpRule, setUpBy, beginRule, beginBy, stepRule, stepBy, openCountRule}
+use Rattle.rules.specs.Entry.{blankBoard, refusing, setUpRule, setUpBy, beginRule, beginBy, stepRule, stepBy, openCountRule, openCountBy}
 use Rattle.rules.specs.Processes.{processAt}
 use Rattle.rules.specs.Refusals.{sizesCheck, processCheck, beginCheck, stepCheck}
 use Rattle.rules.specs.Sizes.{settingsFit}
@@ -22,8 +22,9 @@ use Rattle.rules.specs.declared.Settings.{Settings}
 use Rattle.rules.specs.declared.Start.the-variants.{Refused as StartRefused}
 use Rattle.word.specs.declared.Refusal.{Refusal}
 use Rattle.word.specs.declared.Refusal.the-variants.{SettingOutsideSizes}
-use Rattle.rules.proofs.Accepted.{step-accepted}
-use Rattle.rules.proofs.Frame.{isRefusal, framed}
+use Rattle.rules.proofs.Checked.{step-accepted}
+use Rattle.rules.proofs.Frame.{framed}
+use Rattle.rules.proofs.Places.{isRefusal}
 
 -- a refused set-up gives its number, the blank board and the words as found
 pub set-up-refused : (s : Settings) (words : List ℕ) (r : Refusal) → sizesCheck s (length words) ≡ Refused r
@@ -41,12 +42,26 @@ pub step-refused : (board : Board) (me : ℕ) (words : List ℕ) (r : Refusal)
 unfolding stepRule
 step-refused board me words r e = ap (λ (c : Check). stepBy c board me words) e
 
+pub count-refused : (board : Board) (me : ℕ) (words : List ℕ) (r : Refusal)
+    → processCheck board me words ≡ Refused r → openCountRule board me words ≡ CountRefused r
+unfolding openCountRule
+count-refused board me words r e = ap (λ (c : Check). openCountBy c board me) e
+
 -- an answer is a refusal exactly where the check is that refusal
 refused-only : {A : Type 0} (r : Refusal) (answer : Answer) → isRefusal answer ≡ false → answer ≡ AnswerRefused r → A
 refused-only r answer other e =
     let never : true ≡ false = sym (ap isRefusal e) ∙ other in
     let z : _≡_ {A = ℕ} 0 1 = cc in
     absurd (omega arith)
+
+pub set-up-refuses : (s : Settings) (words : List ℕ) (r : Refusal)
+    → setUpRule s words .0 .start ≡ StartRefused r → sizesCheck s (length words) ≡ Refused r
+unfolding setUpRule
+set-up-refuses s words r = go (sizesCheck s (length words))
+  where
+    go : (c : Check) → setUpBy c s words .0 .start ≡ StartRefused r → c ≡ Refused r
+    go Fine e = cc
+    go (Refused q) e = cc
 
 pub begin-refuses : (board : Board) (me : ℕ) (call : Call) (values words : List ℕ) (r : Refusal)
     → beginRule board me call values words .answer ≡ AnswerRefused r → beginCheck board me call values words ≡ Refused r
@@ -85,5 +100,4 @@ module _ (me : ℕ) (words : List ℕ) where
   blank-step = step-refused blankBoard me words SettingOutsideSizes (rw blank-check)
 
   pub blank-count : openCountRule blankBoard me words ≡ CountRefused SettingOutsideSizes
-  unfolding openCountRule
-  blank-count = rw blank-check
+  blank-count = count-refused blankBoard me words SettingOutsideSizes blank-check

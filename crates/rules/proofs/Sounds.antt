@@ -31,7 +31,8 @@ use Rattle.rules.proofs.Tests.{all-at, all-of}
 values-kept : (s : Settings) (l : List ℕ) (i v : ℕ) → valuesFit s l ≡ true → valueFits s v ≡ true → valuesFit s (set l i v) ≡ true
 unfolding valuesFit
 values-kept s l i v good fits =
-    all-of _ 4 (λ j h. after-set (λ (k : ℕ). valueFits s k ≡ true) l i v 0 j (λ q. fits) (all-at (λ k. valueFits s (getD l k 0)) j 4 good h))
+    all-of _ 4 (λ j h. after-set (λ (k : ℕ). valueFits s k ≡ true) l i v 0 j (λ q. fits)
+    (all-at (λ k. valueFits s (getD l k 0)) j 4 good h))
 
 pub zero-fits : (s : Settings) → valueFits s 0 ≡ true
 unfolding valueFits
@@ -42,7 +43,8 @@ unfolding valuesFit all
 no-values-fit s = rw (zero-fits s)
 
 -- kept tags stay in form where a tag below 2^b is kept; a keep-word of kind `one` may be any word
-kept-kept : (s : Settings) (l : List ℕ) (x v : ℕ) → keptFit s l ≡ true → (s .kind ≡ Many → v < tagLimit (bits s)) → keptFit s (set l x v) ≡ true
+kept-kept : (s : Settings) (l : List ℕ) (x v : ℕ) → keptFit s l ≡ true → (s .kind ≡ Many → v < tagLimit (bits s))
+    → keptFit s (set l x v) ≡ true
 unfolding keptFit
 kept-kept s l x v good fits = by (s .kind) refl good
   where
@@ -61,7 +63,13 @@ module _ (s : Settings) (p : Process) (sound : Sound s p) where
   pub moves : (l : Place) → placeFits s (p .opened) l ≡ true → heldHeader l < 2 ^ 64 → Sound s (at l p)
   moves l fits small =
       record {
-        form = record { place = fits; sequences = sound .form .sequences; kept = sound .form .kept; values = sound .form .values; gathered = sound .form .gathered };
+        form = record {
+          place = fits;
+          sequences = sound .form .sequences;
+          kept = sound .form .kept;
+          values = sound .form .values;
+          gathered = sound .form .gathered;
+        };
         shape = record { keep = sound .shape .keep; gathered = sound .shape .gathered; header = small };
       }
 
@@ -103,7 +111,13 @@ module _ (s : Settings) (p : Process) (sound : Sound s p) where
   pub gathers-anew : Sound s (gatheringAnew p)
   gathers-anew =
       record {
-        form = record { place = sound .form .place; sequences = sound .form .sequences; kept = sound .form .kept; values = sound .form .values; gathered = no-values-fit s };
+        form = record {
+          place = sound .form .place;
+          sequences = sound .form .sequences;
+          kept = sound .form .kept;
+          values = sound .form .values;
+          gathered = no-values-fit s;
+        };
         shape = record { keep = sound .shape .keep; gathered = refl; header = sound .shape .header };
       }
 
@@ -117,7 +131,11 @@ module _ (s : Settings) (p : Process) (sound : Sound s p) where
           values = sound .form .values;
           gathered = values-kept s (p .gathered) i value (sound .form .gathered) fits;
         };
-        shape = record { keep = sound .shape .keep; gathered = length-set (p .gathered) i value ∙ sound .shape .gathered; header = sound .shape .header };
+        shape = record {
+          keep = sound .shape .keep;
+          gathered = length-set (p .gathered) i value ∙ sound .shape .gathered;
+          header = sound .shape .header;
+        };
       }
 
   pub saves : (c : Copy) (value : ℕ) → valueFits s value ≡ true → Sound s (saving c value p)

@@ -68,7 +68,8 @@ module _ (s : Settings) (words : List ℕ) (clean : Clean s words) (a v : ℕ) (
     where
       headers : headersFit s (set words a v) ≡ true
       headers =
-          all-of _ (s .t) (λ x h. after-set (λ (k : ℕ). names s k ≡ true) words a v 0 (headerAt s x) (header x h) (header-names s words clean many x h))
+          all-of _ (s .t) (λ x h. after-set (λ (k : ℕ). names s k ≡ true) words a v 0 (headerAt s x)
+          (header x h) (header-names s words clean many x h))
 
       rows : rowsFit s (set words a v) ≡ true
       rows =

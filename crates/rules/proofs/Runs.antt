@@ -13,7 +13,7 @@ use Rattle.rules.specs.declared.Check.{Check}
 use Rattle.rules.specs.declared.Check.the-variants.{Fine, Refused}
 use Rattle.rules.specs.declared.SetUp.{SetUp}
 use Rattle.rules.specs.declared.Settings.{Settings}
-use Rattle.rules.proofs.Accepted.{stands}
+use Rattle.rules.proofs.Checked.{stands}
 use Rattle.rules.proofs.Fresh.{set-up-accepted, fresh-in-form, fresh-length, fresh-past}
 use Rattle.rules.proofs.Keeps.{InForm, begin-keeps, step-keeps}
 use Rattle.rules.proofs.Leaves.{begin-settings, step-settings, step-length, step-past}
@@ -56,18 +56,21 @@ module _ (s : Settings) (lent : List ℕ) where
         past = h .past;
       }
   runs-on (step me) state h =
+      let used : (a : ℕ) → wordsUsed s ≤ a → wordsUsed (state .board .settings) ≤ a =
+      λ a l. subst (λ (z : Settings). wordsUsed z ≤ a) (sym (h .settings)) l in
       record {
         settings = step-settings (state .board) me (state .words) ∙ h .settings;
         form = step-in-form me state (h .form);
         long = step-length (state .board) me (state .words) ∙ h .long;
-        past = λ a l. step-past (state .board) me (state .words) a (subst (λ (z : Settings). wordsUsed z ≤ a) (sym (h .settings)) l) ∙ h .past a l;
+        past = λ a l. step-past (state .board) me (state .words) a (used a l) ∙ h .past a l;
       }
 
   module _ (ready : sizesCheck s (length lent) ≡ Fine) where
     starts : Running s lent (fresh s lent)
     starts =
         let sizes = stands s lent ready in
-        subst (λ (r : SetUp × List ℕ). Running s lent (record { board = r .0 .board; words = r .1 })) (sym (set-up-accepted s lent ready))
+        subst (λ (r : SetUp × List ℕ). Running s lent (record { board = r .0 .board; words = r .1 }))
+        (sym (set-up-accepted s lent ready))
         (record {
           settings = refl;
           form = fresh-in-form s lent (sized s (sizes .settings));
