@@ -6,3 +6,5 @@ pub mod RoundTrip
 pub mod SameBytes
 pub mod BlankFields
 pub mod Values
+pub mod Laws
+pub mod Cases

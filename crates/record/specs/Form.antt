@@ -30,6 +30,6 @@ unfoldable pub commas : List ℕ → ℕ
 commas [] = 0
 commas (x ∷ xs) = cond (eqb x comma) 1 0 + commas xs
 
--- 7 fields have 6 commas between them
+-- at most 512 bytes with the closing pair, nothing stray, and one field more than commas
 unfoldable pub inForm : List ℕ → Bool
-inForm s = leb (length s) 512 && (noStray (bodyOf s) && eqb (commas (bodyOf s)) 6)
+inForm s = leb (length s) 512 && (noStray (bodyOf s) && eqb (commas (bodyOf s) + 1) 7)

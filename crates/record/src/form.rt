@@ -6,12 +6,12 @@ ghost use lib.Dec.{eqb};
 ghost use lib.ListN.{length, drop};
 ghost use Rattle.record.specs.Form.{closed, bodyLength, bodyOf, stray, noStray, commas, inForm};
 ghost use Rattle.record.specs.Fields.{upToComma, partOf, fieldOf};
+ghost use Rattle.record.specs.Blanks.{blankFrom};
 
 // A record with its closing pair has at most so many bytes.
 pub const MOST_BYTES: usize = 512;
 
-// Seven fields have six commas.
-const COMMAS: usize = 6;
+const FIELDS: usize = 7;
 
 fn is_closed(bytes: &[u8]) -> bool
     ensures { λ r. ⌜ r ≡ closed (now (bytes .entry)) ⌝ }
@@ -58,7 +58,7 @@ fn is_stray(byte: u8) -> bool
 }
 
 fn has_seven_fields(inside: &[u8]) -> bool
-    ensures { λ r. ⌜ r ≡ noStray (now (inside .entry)) && eqb (commas (now (inside .entry))) 6 ⌝ }
+    ensures { λ r. ⌜ r ≡ noStray (now (inside .entry)) && eqb (commas (now (inside .entry)) + 1) 7 ⌝ }
 {
     let mut found: usize = 0;
     let mut i: usize = 0;
@@ -72,7 +72,7 @@ fn has_seven_fields(inside: &[u8]) -> bool
         }
         i += 1;
     }
-    found == COMMAS
+    found + 1 == FIELDS
 }
 
 // Whether a record escapes refusal 10.
@@ -126,4 +126,19 @@ pub fn field(bytes: &[u8], k: usize) -> &[u8]
     let start = start_of(inside, k);
     let end = end_of(inside, start);
     &inside[start..end]
+}
+
+// Whether all fields from `from` on are blank.
+pub(crate) fn blank_from(bytes: &[u8], from: usize) -> bool
+    ensures { λ r. ⌜ r ≡ blankFrom (now (bytes .entry)) from ⌝ }
+{
+    let mut k = from;
+    while k < FIELDS {
+        let part = field(bytes, k);
+        if part.len() != 0 {
+            return false;
+        }
+        k += 1;
+    }
+    true
 }

@@ -6,6 +6,7 @@ mod schedule;
 mod setup;
 mod words;
 
+pub use form::MOST_BYTES;
 pub use form::body;
 pub use form::field;
 pub use form::in_form;
@@ -16,10 +17,6 @@ pub use schedule::ScheduleRead;
 pub use schedule::read_schedule;
 pub use setup::SettingsRead;
 pub use setup::read_settings;
-pub use words::ActRead;
-pub use words::KindRead;
-pub use words::read_act;
-pub use words::read_kind;
 
 // The acts of document 01: LL, VL, SC and step.
 pub enum Act {

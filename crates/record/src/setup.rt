@@ -1,7 +1,7 @@
 // The first record of a schedule: N, kind, T, b, W, two blanks.
 ghost use mathlib.Core.Path.{_≡_};
-ghost use Rattle.record.specs.Blanks.{blankFrom};
 ghost use Rattle.record.specs.Setup.{settingsFrom, settingsOf};
+use super::form::blank_from;
 use super::form::field;
 use super::form::in_form;
 use super::number::Number;
@@ -16,23 +16,6 @@ use word::Refusal;
 pub enum SettingsRead {
     Read(Settings),
     Refused(Refusal),
-}
-
-const FIELDS: usize = 7;
-
-// Whether all fields from `from` on are blank.
-pub(crate) fn blank_from(bytes: &[u8], from: usize) -> bool
-    ensures { λ r. ⌜ r ≡ blankFrom (now (bytes .entry)) from ⌝ }
-{
-    let mut k = from;
-    while k < FIELDS {
-        let part = field(bytes, k);
-        if part.len() != 0 {
-            return false;
-        }
-        k += 1;
-    }
-    true
 }
 
 // The settings in the fields, or refusal 11 where one of them is not in form.

@@ -30,7 +30,7 @@ fn is_word(bytes: &[u8], word: &[u8]) -> bool
     true
 }
 
-pub fn read_act(bytes: &[u8]) -> ActRead
+pub(crate) fn read_act(bytes: &[u8]) -> ActRead
     ensures { λ r. ⌜ r ≡ actOf (now (bytes .entry)) ⌝ }
 {
     if is_word(bytes, b"LL") {
@@ -48,7 +48,7 @@ pub fn read_act(bytes: &[u8]) -> ActRead
     ActRead::Unknown
 }
 
-pub fn read_kind(bytes: &[u8]) -> KindRead
+pub(crate) fn read_kind(bytes: &[u8]) -> KindRead
     ensures { λ r. ⌜ r ≡ kindOf (now (bytes .entry)) ⌝ }
 {
     if is_word(bytes, b"one") {

@@ -1,15 +1,12 @@
 -- `body` meets its contract. Assumes nothing.
-use Prim.Native.Nat.{ℕ, _+_, _-_, _*_, _^_, _≤_, _<_}
-use mathlib.Core.Path.{_≡_, refl, ap, sym, _∙_}
+use Prim.Native.Nat.{ℕ, _-_}
+use mathlib.Core.Path.{_≡_, ap}
 use native.Mathlib.Omega.{arith}
-use lib.ListN.{length, take, drop, getD}
+use lib.ListN.{take}
 use Rattle.record.specs.Form.{bodyOf, bodyLength}
 use borrow.Author.Needs.{needs}
 use Rattle.record.proofs.form.body.Statement.{statement}
 use Rattle.record.proofs.form.body.Tie as tie
-use Rattle.record.proofs.form.body.Reads as reads
-use Rattle.record.proofs.form.body.Lts as lts
-use Rattle.record.proofs.form.body_length.Reads as body-length-reads
 
 body-length-requires : tie.Need-body-length-requires
 body-length-requires c κs = search needs

@@ -1,16 +1,11 @@
 -- `body_length` meets its contract. Assumes nothing.
-use mathlib.Core.Path.{_≡_, refl, ap, sym, _∙_}
+use mathlib.Core.Path.{sym, _∙_}
 use native.Mathlib.Omega.{arith}
-use Prim.Native.Nat.{ℕ, _+_, _-_, _*_, _^_, _≤_, _<_}
-use lib.ListN.{length, take, drop, getD}
-use Rattle.record.specs.Form.{bodyLength, closed}
+use Rattle.record.specs.Form.{bodyLength}
 use Rattle.record.proofs.Splits.{closed-two}
 use borrow.Author.Needs.{needs}
 use Rattle.record.proofs.form.body_length.Statement.{statement}
 use Rattle.record.proofs.form.body_length.Tie as tie
-use Rattle.record.proofs.form.body_length.Reads as reads
-use Rattle.record.proofs.form.body_length.Lts as lts
-use Rattle.record.proofs.form.is_closed.Reads as is-closed-reads
 
 is-closed-requires : tie.Need-is-closed-requires
 is-closed-requires c κs = search needs

@@ -1,15 +1,13 @@
 -- `end_of` meets its contract. The invariant: what is left of the part begins at i. Assumes nothing.
-use Prim.Native.Nat.{ℕ, _+_, _-_, _*_, _^_, _≤_, _<_}
-use mathlib.Core.Path.{_≡_, refl, ap, sym, _∙_}
+use Prim.Native.Nat.{_+_, _-_, _≤_}
+use mathlib.Core.Path.{_≡_, ap}
 use native.Mathlib.Omega.{arith}
 use borrow.Author.Needs.{needs}
-use lib.ListN.{length, take, drop, getD}
+use lib.ListN.{length, drop}
 use Rattle.record.specs.Fields.{upToComma}
 use Rattle.record.proofs.Splits.{up-to-comma, up-to-other, up-to-end}
 use Rattle.record.proofs.form.end_of.Statement.{statement}
 use Rattle.record.proofs.form.end_of.Tie as tie
-use Rattle.record.proofs.form.end_of.Reads as reads
-use Rattle.record.proofs.form.end_of.Lts as lts
 
 abbrev Inv-loop : tie.InvT-loop
 Inv-loop inside start i₀ i = (start ≤ i) × (i ≤ length inside) × (start + length (upToComma (drop start inside)) ≡ i + length (upToComma (drop i inside)))

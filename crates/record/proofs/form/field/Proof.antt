@@ -1,18 +1,13 @@
 -- `field` meets its contract: the part from where field k starts to where it ends. Assumes nothing.
-use Prim.Native.Nat.{ℕ, _+_, _-_, _*_, _^_, _≤_, _<_}
-use mathlib.Core.Path.{_≡_, refl, ap, sym, _∙_}
+use Prim.Native.Nat.{_-_}
+use mathlib.Core.Path.{_≡_, ap, _∙_}
 use native.Mathlib.Omega.{arith}
-use lib.ListN.{length, take, drop, getD}
+use lib.ListN.{length, drop}
 use Rattle.record.specs.Fields.{upToComma, partOf, fieldOf}
 use Rattle.record.proofs.Splits.{up-to-take}
 use borrow.Author.Needs.{needs}
 use Rattle.record.proofs.form.field.Statement.{statement}
 use Rattle.record.proofs.form.field.Tie as tie
-use Rattle.record.proofs.form.field.Reads as reads
-use Rattle.record.proofs.form.field.Lts as lts
-use Rattle.record.proofs.form.body.Reads as body-reads
-use Rattle.record.proofs.form.end_of.Reads as end-of-reads
-use Rattle.record.proofs.form.start_of.Reads as start-of-reads
 
 body-requires : tie.Need-body-requires
 body-requires c κs = search needs

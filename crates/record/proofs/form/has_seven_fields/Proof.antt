@@ -1,19 +1,15 @@
 -- `has_seven_fields` meets its contract. The invariant: what is found and what is left make the whole. Assumes nothing.
-use Prim.Native.Nat.{ℕ, _+_, _-_, _*_, _^_, _≤_, _<_}
-use mathlib.Core.Path.{_≡_, refl, ap, sym, _∙_}
+use Prim.Native.Nat.{_+_, _-_, _≤_, _<_}
+use mathlib.Core.Path.{_≡_, refl, sym, _∙_}
 use native.Mathlib.Omega.{arith}
 use mathlib.Core.Logic.{⊎-elim}
-use mathlib.Core.Bool.{Bool, true, false, _&&_}
-use lib.ListN.{length, take, drop, getD}
-use borrow.Author.Tests.{eq-eqb}
+use mathlib.Core.Bool.{true}
+use lib.ListN.{length, drop}
 use Rattle.record.specs.Form.{noStray, commas}
 use Rattle.record.proofs.Tests.{and-false-left}
 use Rattle.record.proofs.Splits.{commas-comma, commas-other, commas-end, stray-here, stray-not, stray-end}
 use Rattle.record.proofs.form.has_seven_fields.Statement.{statement}
 use Rattle.record.proofs.form.has_seven_fields.Tie as tie
-use Rattle.record.proofs.form.has_seven_fields.Reads as reads
-use Rattle.record.proofs.form.has_seven_fields.Lts as lts
-use Rattle.record.proofs.form.is_stray.Reads as is-stray-reads
 
 abbrev Inv-loop : tie.InvT-loop
 Inv-loop inside found₀ i₀ found i = (i ≤ length inside) × (found ≤ i) × (noStray (drop i inside) ≡ noStray inside) × (found + commas (drop i inside) ≡ commas inside)
@@ -58,6 +54,9 @@ loop-again c =
     (λ w. (omega arith, omega arith, sym e ∙ p .loop .inv .2, omega (arith, commas-other s (p .loop .i) h (w .0 .left))))
     (c .if2 .came)
 
+add-result : tie.Need-add-result Inv-loop μ-loop
+add-result c = omega arith
+
 returns-2 : tie.Need-returns-2 Inv-loop μ-loop
 returns-2 c =
     let p = c .before in
@@ -81,4 +80,5 @@ has-seven-fields-spec =
     add-i
     loop-less
     loop-again
+    add-result
     returns-2)

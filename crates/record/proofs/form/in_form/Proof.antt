@@ -4,10 +4,6 @@ use Rattle.record.specs.Form.{inForm}
 use borrow.Author.Needs.{needs}
 use Rattle.record.proofs.form.in_form.Statement.{statement}
 use Rattle.record.proofs.form.in_form.Tie as tie
-use Rattle.record.proofs.form.in_form.Reads as reads
-use Rattle.record.proofs.form.in_form.Lts as lts
-use Rattle.record.proofs.form.body.Reads as body-reads
-use Rattle.record.proofs.form.has_seven_fields.Reads as has-seven-fields-reads
 
 returns : tie.Need-returns
 unfolding inForm

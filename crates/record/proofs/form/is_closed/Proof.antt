@@ -4,8 +4,6 @@ use Rattle.record.specs.Form.{closed}
 use borrow.Author.Needs.{needs}
 use Rattle.record.proofs.form.is_closed.Statement.{statement}
 use Rattle.record.proofs.form.is_closed.Tie as tie
-use Rattle.record.proofs.form.is_closed.Reads as reads
-use Rattle.record.proofs.form.is_closed.Lts as lts
 
 returns : tie.Need-returns
 unfolding closed

@@ -2,8 +2,6 @@
 use borrow.Author.Tests.{eq-eqb, ne-eqb}
 use Rattle.record.proofs.form.is_stray.Statement.{statement}
 use Rattle.record.proofs.form.is_stray.Tie as tie
-use Rattle.record.proofs.form.is_stray.Reads as reads
-use Rattle.record.proofs.form.is_stray.Lts as lts
 
 returns : tie.Need-returns
 returns c = simp (eq-eqb _ _ (c .if1 .taken))

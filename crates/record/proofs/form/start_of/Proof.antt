@@ -1,15 +1,13 @@
 -- `start_of` meets its contract. The invariant: the part asked for is part `left` of what begins at i. Assumes nothing.
-use Prim.Native.Nat.{ℕ, _+_, _-_, _*_, _^_, _≤_, _<_}
-use mathlib.Core.Path.{_≡_, refl, ap, sym, _∙_}
+use Prim.Native.Nat.{_-_, _≤_, _<_}
+use mathlib.Core.Path.{_≡_, refl}
 use native.Mathlib.Omega.{arith}
 use mathlib.Core.Logic.{⊎-elim}
-use lib.ListN.{length, take, drop, getD}
-use Rattle.record.specs.Fields.{upToComma, partOf}
+use lib.ListN.{length, drop}
+use Rattle.record.specs.Fields.{partOf}
 use Rattle.record.proofs.Splits.{part-comma, part-other, part-end, up-to-end}
 use Rattle.record.proofs.form.start_of.Statement.{statement}
 use Rattle.record.proofs.form.start_of.Tie as tie
-use Rattle.record.proofs.form.start_of.Reads as reads
-use Rattle.record.proofs.form.start_of.Lts as lts
 
 abbrev Inv-loop : tie.InvT-loop
 Inv-loop inside k i₀ left₀ i left = (i ≤ length inside) × (partOf (drop i inside) left ≡ partOf inside k)

@@ -1,14 +1,12 @@
 -- `are_digits` meets its contract. The invariant: all bytes are digits exactly if all from i on are. Assumes nothing.
-use Prim.Native.Nat.{ℕ, _+_, _-_, _*_, _^_, _≤_, _<_}
-use mathlib.Core.Path.{_≡_, refl, ap, sym, _∙_}
+use Prim.Native.Nat.{_-_, _≤_, _<_}
+use mathlib.Core.Path.{_≡_, refl}
 use native.Mathlib.Omega.{arith}
-use lib.ListN.{length, take, drop, getD}
+use lib.ListN.{length, drop}
 use Rattle.record.specs.Number.{allDigits}
 use Rattle.record.proofs.Numbers.{digits-low, digits-high, digits-on, digits-end}
 use Rattle.record.proofs.number.are_digits.Statement.{statement}
 use Rattle.record.proofs.number.are_digits.Tie as tie
-use Rattle.record.proofs.number.are_digits.Reads as reads
-use Rattle.record.proofs.number.are_digits.Lts as lts
 
 abbrev Inv-loop : tie.InvT-loop
 Inv-loop bytes i₀ i = (i ≤ length bytes) × (allDigits (drop i bytes) ≡ allDigits bytes)

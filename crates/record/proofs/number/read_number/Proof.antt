@@ -1,15 +1,10 @@
 -- `read_number` meets its contract: the cases of the definition in its order. Assumes nothing.
-use mathlib.Core.Path.{_≡_, refl, ap, sym, _∙_}
+use mathlib.Core.Path.{sym, _∙_}
 use borrow.Author.Tests.{eq-eqb, ne-eqb}
 use Rattle.record.specs.Number.{numberOf, numberCase}
 use borrow.Author.Needs.{needs}
 use Rattle.record.proofs.number.read_number.Statement.{statement}
 use Rattle.record.proofs.number.read_number.Tie as tie
-use Rattle.record.proofs.number.read_number.Reads as reads
-use Rattle.record.proofs.number.read_number.Lts as lts
-use Rattle.record.proofs.number.are_digits.Reads as are-digits-reads
-use Rattle.record.proofs.number.value_of.Reads as value-of-reads
-use Rattle.record.proofs.number.zero_leads.Reads as zero-leads-reads
 
 returns : tie.Need-returns
 unfolding numberOf numberCase

@@ -1,16 +1,13 @@
 -- `value_of` meets its contract. The invariant: the digits from i on, after the value so far, spell the whole. Assumes nothing.
-use Prim.Native.Nat.{ℕ, _+_, _-_, _*_, _^_, _≤_, _<_}
-use mathlib.Core.Path.{_≡_, refl, ap, sym, _∙_}
+use Prim.Native.Nat.{_-_, _^_, _≤_, _<_}
+use mathlib.Core.Path.{_≡_, refl, sym, _∙_}
 use native.Mathlib.Omega.{arith}
-use mathlib.Core.Bool.{Bool, true, false, _&&_}
-use lib.ListN.{length, take, drop, getD}
+use mathlib.Core.Bool.{true}
+use lib.ListN.{length, drop, getD}
 use Rattle.record.specs.Number.{allDigits, valueFrom}
 use Rattle.record.proofs.Numbers.{value-step, digits-at, digits-rest, digit-low, too-great, value-done}
 use Rattle.record.proofs.number.value_of.Statement.{statement}
 use Rattle.record.proofs.number.value_of.Tie as tie
-use Rattle.record.proofs.number.value_of.Reads as reads
-use Rattle.record.proofs.number.value_of.Lts as lts
-use Rattle.record.proofs.number.wide.Reads as wide-reads
 
 abbrev Inv-loop : tie.InvT-loop
 Inv-loop digits i₀ value₀ i value = (i ≤ length digits) × (value < 2 ^ 64) × (allDigits (drop i digits) ≡ true) × (valueFrom value (drop i digits) ≡ valueFrom 0 digits)

@@ -4,8 +4,6 @@ use Rattle.record.specs.Number.{zeroLeads}
 use borrow.Author.Needs.{needs}
 use Rattle.record.proofs.number.zero_leads.Statement.{statement}
 use Rattle.record.proofs.number.zero_leads.Tie as tie
-use Rattle.record.proofs.number.zero_leads.Reads as reads
-use Rattle.record.proofs.number.zero_leads.Lts as lts
 
 returns : tie.Need-returns
 unfolding zeroLeads

@@ -3,8 +3,6 @@ use native.Mathlib.Omega.{arith}
 use borrow.Author.Tests.{le-leb, lt-leb}
 use Rattle.record.proofs.schedule.at_most_four.Statement.{statement}
 use Rattle.record.proofs.schedule.at_most_four.Tie as tie
-use Rattle.record.proofs.schedule.at_most_four.Reads as reads
-use Rattle.record.proofs.schedule.at_most_four.Lts as lts
 
 returns : tie.Need-returns
 returns c = (simp (le-leb _ _ (c .if1 .taken)), omega arith)

@@ -2,8 +2,6 @@
 use borrow.Author.Needs.{needs}
 use Rattle.record.proofs.schedule.entry_of.Statement.{statement}
 use Rattle.record.proofs.schedule.entry_of.Tie as tie
-use Rattle.record.proofs.schedule.entry_of.Reads as reads
-use Rattle.record.proofs.schedule.entry_of.Lts as lts
 
 enum-told : tie.Need-enum-told
 enum-told c = search needs

@@ -1,18 +1,11 @@
 -- `read_call` meets its contract: the variable, the values, then the blanks. Assumes nothing.
-use mathlib.Core.Path.{_≡_, refl, ap, sym, _∙_}
+use mathlib.Core.Path.{sym, _∙_}
 use borrow.Author.Tests.{not-true, not-false}
 use Rattle.record.proofs.Values.{read-form, read-given}
 use Rattle.record.specs.Schedule.{callOf}
 use borrow.Author.Needs.{needs}
 use Rattle.record.proofs.schedule.read_call.Statement.{statement}
 use Rattle.record.proofs.schedule.read_call.Tie as tie
-use Rattle.record.proofs.schedule.read_call.Reads as reads
-use Rattle.record.proofs.schedule.read_call.Lts as lts
-use Rattle.record.proofs.number.number_at.Reads as number-at-reads
-use Rattle.record.proofs.schedule.entry_of.Reads as entry-of-reads
-use Rattle.record.proofs.schedule.read_values.Reads as read-values-reads
-use Rattle.record.proofs.schedule.refused.Reads as refused-reads
-use Rattle.record.proofs.setup.blank_from.Reads as blank-from-reads
 
 number-at-requires : tie.Need-number-at-requires
 number-at-requires c κs = search needs

@@ -1,16 +1,11 @@
 -- `read_rest` meets its contract, act by act. Assumes nothing.
-use mathlib.Core.Path.{_≡_, refl, ap, sym, _∙_}
+use mathlib.Core.Path.{ap, sym, _∙_}
 use Rattle.record.specs.declared.Act.{Act}
 use Rattle.record.specs.declared.Act.the-variants.{Store}
 use Rattle.record.specs.Schedule.{callOf, restOf}
 use borrow.Author.Needs.{needs}
 use Rattle.record.proofs.schedule.read_rest.Statement.{statement}
 use Rattle.record.proofs.schedule.read_rest.Tie as tie
-use Rattle.record.proofs.schedule.read_rest.Reads as reads
-use Rattle.record.proofs.schedule.read_rest.Lts as lts
-use Rattle.record.proofs.schedule.at_most_four.Reads as at-most-four-reads
-use Rattle.record.proofs.schedule.read_call.Reads as read-call-reads
-use Rattle.record.proofs.schedule.read_step.Reads as read-step-reads
 
 enum-told : tie.Need-enum-told
 enum-told c = search needs

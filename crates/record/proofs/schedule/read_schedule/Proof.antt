@@ -1,19 +1,11 @@
 -- `read_schedule` meets its contract: 10 first, then the fields from left to right. Assumes nothing.
-use mathlib.Core.Path.{_≡_, refl, ap, sym, _∙_}
+use mathlib.Core.Path.{ap, sym, _∙_}
 use borrow.Author.Tests.{not-true, not-false}
 use Rattle.record.specs.Words.{actOf}
 use Rattle.record.specs.Schedule.{scheduleOf}
 use borrow.Author.Needs.{needs}
 use Rattle.record.proofs.schedule.read_schedule.Statement.{statement}
 use Rattle.record.proofs.schedule.read_schedule.Tie as tie
-use Rattle.record.proofs.schedule.read_schedule.Reads as reads
-use Rattle.record.proofs.schedule.read_schedule.Lts as lts
-use Rattle.record.proofs.form.field.Reads as field-reads
-use Rattle.record.proofs.form.in_form.Reads as in-form-reads
-use Rattle.record.proofs.number.number_at.Reads as number-at-reads
-use Rattle.record.proofs.schedule.read_rest.Reads as read-rest-reads
-use Rattle.record.proofs.schedule.refused.Reads as refused-reads
-use Rattle.record.proofs.words.read_act.Reads as read-act-reads
 
 in-form-requires : tie.Need-in-form-requires
 in-form-requires c κs = search needs

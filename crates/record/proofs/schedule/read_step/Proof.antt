@@ -1,14 +1,10 @@
 -- `read_step` meets its contract. Assumes nothing.
-use mathlib.Core.Path.{_≡_, refl, ap, sym, _∙_}
+use mathlib.Core.Path.{sym, _∙_}
 use borrow.Author.Tests.{not-true, not-false}
 use Rattle.record.specs.Schedule.{stepOf}
 use borrow.Author.Needs.{needs}
 use Rattle.record.proofs.schedule.read_step.Statement.{statement}
 use Rattle.record.proofs.schedule.read_step.Tie as tie
-use Rattle.record.proofs.schedule.read_step.Reads as reads
-use Rattle.record.proofs.schedule.read_step.Lts as lts
-use Rattle.record.proofs.schedule.refused.Reads as refused-reads
-use Rattle.record.proofs.setup.blank_from.Reads as blank-from-reads
 
 blank-from-requires : tie.Need-blank-from-requires
 blank-from-requires c κs = search needs

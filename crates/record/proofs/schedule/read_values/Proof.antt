@@ -1,17 +1,13 @@
 -- `read_values` meets its contract. The invariant: the first i values are in form and in their places. Assumes nothing.
-use Prim.Native.Nat.{ℕ, _+_, _-_, _*_, _^_, _≤_, _<_}
-use mathlib.Core.Path.{_≡_, refl, ap, sym, _∙_}
-use mathlib.Core.Bool.{Bool, true, false, _&&_}
+use Prim.Native.Nat.{_+_, _-_, _≤_}
+use mathlib.Core.Path.{_≡_, refl, sym, _∙_}
+use mathlib.Core.Bool.{true}
 use native.Mathlib.Omega.{arith}
 use borrow.Author.Needs.{needs}
-use lib.ListN.{length, take, drop, getD}
 use Rattle.record.specs.Schedule.{valuesInForm, valuesOf, valuesRead}
 use Rattle.record.proofs.Values.{values-more, form-more, form-none, form-later}
 use Rattle.record.proofs.schedule.read_values.Statement.{statement}
 use Rattle.record.proofs.schedule.read_values.Tie as tie
-use Rattle.record.proofs.schedule.read_values.Reads as reads
-use Rattle.record.proofs.schedule.read_values.Lts as lts
-use Rattle.record.proofs.number.number_at.Reads as number-at-reads
 
 abbrev Inv-loop : tie.InvT-loop
 Inv-loop bytes count values₀ i₀ values i = (i ≤ count) × (valuesInForm bytes i ≡ true) × (values ≡ valuesOf bytes i)

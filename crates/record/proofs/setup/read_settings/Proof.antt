@@ -1,19 +1,11 @@
 -- `read_settings` meets its contract: 10 first, then the fields. Assumes nothing.
-use mathlib.Core.Path.{_≡_, refl, ap, sym, _∙_}
+use mathlib.Core.Path.{ap, sym, _∙_}
 use borrow.Author.Tests.{not-true, not-false}
 use Rattle.record.specs.Words.{kindOf}
 use Rattle.record.specs.Setup.{settingsOf}
 use borrow.Author.Needs.{needs}
 use Rattle.record.proofs.setup.read_settings.Statement.{statement}
 use Rattle.record.proofs.setup.read_settings.Tie as tie
-use Rattle.record.proofs.setup.read_settings.Reads as reads
-use Rattle.record.proofs.setup.read_settings.Lts as lts
-use Rattle.record.proofs.form.field.Reads as field-reads
-use Rattle.record.proofs.form.in_form.Reads as in-form-reads
-use Rattle.record.proofs.number.number_at.Reads as number-at-reads
-use Rattle.record.proofs.setup.blank_from.Reads as blank-from-reads
-use Rattle.record.proofs.setup.settings_from.Reads as settings-from-reads
-use Rattle.record.proofs.words.read_kind.Reads as read-kind-reads
 
 in-form-requires : tie.Need-in-form-requires
 in-form-requires c κs = search needs

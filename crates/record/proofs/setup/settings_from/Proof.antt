@@ -2,8 +2,6 @@
 use borrow.Author.Needs.{needs}
 use Rattle.record.proofs.setup.settings_from.Statement.{statement}
 use Rattle.record.proofs.setup.settings_from.Tie as tie
-use Rattle.record.proofs.setup.settings_from.Reads as reads
-use Rattle.record.proofs.setup.settings_from.Lts as lts
 
 enum-known-n : tie.Need-enum-known-n
 enum-known-n c = search needs

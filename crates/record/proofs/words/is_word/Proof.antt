@@ -1,14 +1,12 @@
 -- `is_word` meets its contract. The invariant: the two are the same exactly if what is left of them is. Assumes nothing.
-use Prim.Native.Nat.{ℕ, _+_, _-_, _*_, _^_, _≤_, _<_}
-use mathlib.Core.Path.{_≡_, refl, ap, sym, _∙_}
+use Prim.Native.Nat.{_-_, _≤_}
+use mathlib.Core.Path.{_≡_, refl, sym, _∙_}
 use native.Mathlib.Omega.{arith}
-use lib.ListN.{length, take, drop, getD}
+use lib.ListN.{length, drop}
 use Rattle.record.specs.Words.{same}
 use Rattle.record.proofs.SameBytes.{same-lengths, same-here, same-not, same-end}
 use Rattle.record.proofs.words.is_word.Statement.{statement}
 use Rattle.record.proofs.words.is_word.Tie as tie
-use Rattle.record.proofs.words.is_word.Reads as reads
-use Rattle.record.proofs.words.is_word.Lts as lts
 
 abbrev Inv-loop : tie.InvT-loop
 Inv-loop bytes word i₀ i = (i ≤ length word) × (length bytes ≡ length word) × (same (drop i bytes) (drop i word) ≡ same bytes word)

@@ -1,12 +1,9 @@
 -- `read_act` meets its contract: the four words in the definition's order. Assumes nothing.
-use mathlib.Core.Path.{_≡_, refl, ap, sym, _∙_}
+use mathlib.Core.Path.{sym, _∙_}
 use Rattle.record.specs.Words.{actOf}
 use borrow.Author.Needs.{needs}
 use Rattle.record.proofs.words.read_act.Statement.{statement}
 use Rattle.record.proofs.words.read_act.Tie as tie
-use Rattle.record.proofs.words.read_act.Reads as reads
-use Rattle.record.proofs.words.read_act.Lts as lts
-use Rattle.record.proofs.words.is_word.Reads as is-word-reads
 
 slice-aggregate-is-word : tie.Need-slice-aggregate-is-word
 slice-aggregate-is-word c = search needs

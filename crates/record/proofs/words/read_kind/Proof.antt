@@ -1,12 +1,9 @@
 -- `read_kind` meets its contract: the two words in the definition's order. Assumes nothing.
-use mathlib.Core.Path.{_≡_, refl, ap, sym, _∙_}
+use mathlib.Core.Path.{sym, _∙_}
 use Rattle.record.specs.Words.{kindOf}
 use borrow.Author.Needs.{needs}
 use Rattle.record.proofs.words.read_kind.Statement.{statement}
 use Rattle.record.proofs.words.read_kind.Tie as tie
-use Rattle.record.proofs.words.read_kind.Reads as reads
-use Rattle.record.proofs.words.read_kind.Lts as lts
-use Rattle.record.proofs.words.is_word.Reads as is-word-reads
 
 slice-aggregate-is-word : tie.Need-slice-aggregate-is-word
 slice-aggregate-is-word c = search needs

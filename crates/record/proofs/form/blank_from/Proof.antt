@@ -1,15 +1,12 @@
 -- `blank_from` meets its contract. The invariant: the fields from `from` on are blank exactly if those from k on are. Assumes nothing.
-use Prim.Native.Nat.{ℕ, _+_, _-_, _*_, _^_, _≤_, _<_}
+use Prim.Native.Nat.{_-_}
 use mathlib.Core.Path.{_≡_, refl, ap, sym, _∙_}
 use native.Mathlib.Omega.{arith}
-use lib.ListN.{length, take, drop, getD}
+use lib.ListN.{length}
 use Rattle.record.specs.Blanks.{blankFrom}
 use Rattle.record.proofs.BlankFields.{blank-here, blank-not, blank-end}
-use Rattle.record.proofs.setup.blank_from.Statement.{statement}
-use Rattle.record.proofs.setup.blank_from.Tie as tie
-use Rattle.record.proofs.setup.blank_from.Reads as reads
-use Rattle.record.proofs.setup.blank_from.Lts as lts
-use Rattle.record.proofs.form.field.Reads as field-reads
+use Rattle.record.proofs.form.blank_from.Statement.{statement}
+use Rattle.record.proofs.form.blank_from.Tie as tie
 
 abbrev Inv-loop : tie.InvT-loop
 Inv-loop bytes from k₀ k = blankFrom bytes k ≡ blankFrom bytes from
