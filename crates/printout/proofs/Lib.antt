@@ -3,4 +3,5 @@ pub mod Decimals
 pub mod Digits
 pub mod Rows
 pub mod Longest
+pub mod Writes
 pub mod Cases

@@ -163,11 +163,11 @@ fn put_values(numbers: &[u64], out: &mut [u8], at: usize) -> usize
     requires { ⌜ at + length (rest (valueFields (now numbers))) ≤ length (now out) ⌝ }
     ensures { λ r. ⌜ Put (now (out .entry)) at (rest (valueFields (now (numbers .entry)))) (now (out .exit)) r ⌝ }
 {
-    let a = put_value(0, numbers, out, at);
-    let b = put_value(1, numbers, out, a);
-    let c = put_value(2, numbers, out, b);
-    let d = put_value(3, numbers, out, c);
-    put(b"\r\n", out, d)
+    let at_v1 = put_value(0, numbers, out, at);
+    let at_v2 = put_value(1, numbers, out, at_v1);
+    let at_v3 = put_value(2, numbers, out, at_v2);
+    let at_end = put_value(3, numbers, out, at_v3);
+    put(b"\r\n", out, at_end)
 }
 
 fn refusal_number(refusal: Refusal) -> u64
@@ -256,11 +256,11 @@ fn put_fields(row: Row, out: &mut [u8], at: usize) -> usize
     let answer = row.answer;
     let open = row.open;
     let values = row.values;
-    let a = put_decimal(row.number, out, at);
-    let b = put_who(who, out, a);
-    let c = put_answer(answer, out, b);
-    let d = put_open(open, out, c);
-    put_numbers(answer, row.w, values, out, d)
+    let at_process = put_decimal(row.number, out, at);
+    let at_answer = put_who(who, out, at_process);
+    let at_open = put_answer(answer, out, at_answer);
+    let at_v0 = put_open(open, out, at_open);
+    put_numbers(answer, row.w, values, out, at_v0)
 }
 
 // The room from `at` on.
