@@ -1,12 +1,12 @@
 -- Laws of feeding: where there is room for a row, bytes are gathered up to a record's end, and the record is answered.
 -- Assumes nothing.
 use Prim.Native.Nat.{ℕ}
-use mathlib.Core.Path.{_≡_, refl, sym, ap, _∙_}
+use mathlib.Core.Path.{_≡_, refl, ap}
 use mathlib.Core.Bool.{Bool, true, false, cond}
 use mathlib.Core.List.{List, [], _∷_}
 use borrow.Author.Tests.{eq-eqb}
 use Rattle.schedule.specs.Feeding.{Feeding, holding, answered, gathering, takeIn, takeByte, isFull, stageNumber, sameStage, feedOf}
-use Rattle.schedule.specs.Gathering.{Held, Gathered, put, closes, gatherOf}
+use Rattle.schedule.specs.Gathering.{Gathered, put, closes, gatherOf}
 use Rattle.schedule.specs.Run.{Run}
 use Rattle.schedule.specs.declared.Stage.{Stage}
 use Rattle.schedule.specs.declared.Stage.the-variants.{Waiting, Running, Over}

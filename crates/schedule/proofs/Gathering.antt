@@ -1,13 +1,13 @@
 -- Laws of gathering: one byte more, the closing byte, the end of the bytes. Assumes nothing.
 use Prim.Native.Nat.{ℕ, _+_, _<_, _≤_}
-use mathlib.Core.Path.{_≡_, refl, ap, sym, _∙_}
+use mathlib.Core.Path.{_≡_, sym, _∙_}
 use mathlib.Core.Bool.{Bool, true, false, _&&_}
 use mathlib.Core.List.{List, _∷_}
 use native.Mathlib.Numerals.{add-one}
 use lib.Dec.{eqb}
 use lib.ListN.{length, drop, getD, drop-of-length-le}
 use lib.Seq.{drop-cons}
-use Rattle.schedule.specs.Gathering.{Held, Gathered, put, closes, gatherOf}
+use Rattle.schedule.specs.Gathering.{Held, put, closes, gatherOf}
 
 pub drop-step : (s : List ℕ) (i : ℕ) → i < length s → drop i s ≡ getD s i 0 ∷ drop (i + 1) s
 drop-step s i h = rw (add-one, drop-cons s i 0)

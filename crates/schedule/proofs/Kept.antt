@@ -1,15 +1,14 @@
 -- The line keeps what matters of a record: whether its next byte closes it, and what it says. Assumes nothing.
-use Prim.Native.Nat.{ℕ, zero, suc, _+_, _-_, _≤_, _<_}
-use mathlib.Core.Path.{_≡_, refl, sym, ap, _∙_, subst}
+use Prim.Native.Nat.{ℕ, _+_, _-_, _≤_, _<_}
+use mathlib.Core.Path.{_≡_, refl, sym, ap, _∙_}
 use mathlib.Core.Bool.{Bool, true, false, cond, _&&_}
 use mathlib.Core.List.{List, [], _∷_, _++_}
-use mathlib.Core.Logic.{⊎-elim}
 use native.Mathlib.Numerals.{add-one}
 use native.Mathlib.Omega.{arith}
 use borrow.Author.Tests.{ltb-true, ltb-false, lt-leb, le-leb, lt-ltb, le-ltb}
 use lib.Dec.{eqb, leb, ltb}
-use lib.ListN.{length, getD, set, take, length-append, length-take, length-set, List·getD-append}
-use lib.Seq.{take-append-le, take-all, take-suc-set, getD-append-seam, length-take-le, take-length}
+use lib.ListN.{length, getD, take, length-append, length-set, List·getD-append}
+use lib.Seq.{take-append-le, take-all, take-suc-set, getD-append-seam, length-take-le}
 use Rattle.record.specs.Form.{closed, inForm}
 use Rattle.record.specs.Schedule.{refusedRead, scheduleOf}
 use Rattle.record.specs.Setup.{settingsOf}

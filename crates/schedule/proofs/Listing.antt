@@ -1,5 +1,5 @@
 -- Document 01's listing is printed as it stands there, by computation from the definitions. Assumes nothing.
-use mathlib.Core.Path.{_≡_, refl}
+use mathlib.Core.Path.{refl}
 use Rattle.word.specs.Word as words
 use Rattle.rules.specs.Entry as entry
 use Rattle.rules.specs.GoodForm as form

@@ -1,15 +1,14 @@
 -- What a run still owes: with what is written out and what the output holds, the rows of the records still to come are all
 -- of the printout. Each byte taken keeps this. Assumes nothing.
-use Prim.Native.Nat.{ℕ, _+_, _-_, _≤_, _<_}
-use mathlib.Core.Path.{_≡_, refl, sym, ap, _∙_, subst}
+use Prim.Native.Nat.{ℕ, _+_, _-_, _≤_}
+use mathlib.Core.Path.{_≡_, refl, sym, ap, _∙_}
 use mathlib.Core.Bool.{Bool, true, false, cond}
-use mathlib.Core.List.{List, [], _∷_, _++_, append-assoc, append-nil}
+use mathlib.Core.List.{List, [], _∷_, _++_, append-assoc}
 use native.Mathlib.Omega.{arith}
-use borrow.Author.Tests.{ltb-false, eq-eqb, ne-eqb}
-use lib.Dec.{eqb, ltb}
-use lib.ListN.{length, take, drop, length-append}
-use lib.Seq.{sets, sets-eq, take-at, length-take-le}
-use Rattle.word.specs.declared.Refusal.{Refusal}
+use borrow.Author.Tests.{ltb-false}
+use lib.Dec.{ltb}
+use lib.ListN.{length, take, length-append}
+use lib.Seq.{sets-eq, take-at, length-take-le}
 use Rattle.word.specs.declared.Refusal.the-variants.{TooManyRecords}
 use Rattle.rules.specs.Entry.{setUpRule}
 use Rattle.rules.specs.declared.Board.{Board}
@@ -25,7 +24,7 @@ use Rattle.record.specs.declared.setup.SettingsRead.the-variants.{Read, Refused
 use Rattle.printout.proofs.Longest.{row-at-most}
 use Rattle.printout.specs.Writing.{longestRow}
 use Rattle.schedule.specs.Feeding.{Feeding, holding, telling, answered, gathering, takeIn, takeByte, isFull}
-use Rattle.schedule.specs.Gathering.{Held, bytesOf, put, closes}
+use Rattle.schedule.specs.Gathering.{bytesOf, put, closes}
 use Rattle.schedule.specs.Records.{recordsFrom}
 use Rattle.schedule.specs.Run.{Run, Told, bySetUp, bySettings, setUpTold, eventTold, byEntry, nobodysRow, mostRecords, tooManyTold, scheduleTold, toldIn, recordTold, rowsOf}
 use Rattle.schedule.specs.WholeInput.{output}

@@ -1,21 +1,19 @@
 -- However the input is cut and the output written out, what is written is the printout of what was read. Assumes nothing.
 use Prim.Native.Nat.{ℕ, suc, _+_, _-_, _≤_}
-use mathlib.Core.Path.{_≡_, refl, sym, ap, _∙_, subst}
+use mathlib.Core.Path.{_≡_, refl, sym, ap, _∙_}
 use mathlib.Core.Bool.{Bool, true, false, cond}
 use mathlib.Core.List.{List, [], _∷_, _++_, append-assoc, append-nil}
 use native.Mathlib.Omega.{arith}
 use borrow.Author.Tests.{eq-eqb, ne-eqb}
-use lib.Dec.{eqb}
 use lib.ListN.{length, take, drop}
-use lib.Seq.{sets, sets-eq, take-at, take-nil}
+use lib.Seq.{sets-eq, take-at}
 use Rattle.printout.specs.Row.{heading}
 use Rattle.printout.specs.Writing.{longestRow}
-use Rattle.schedule.specs.Feeding.{Feeding, answered, finishIn, finishOf, takeByte, isFull, sameStage, feedOf}
-use Rattle.schedule.specs.Gathering.{lineLength, bytesOf, nothingHeld}
+use Rattle.schedule.specs.Feeding.{Feeding, finishIn, finishOf, takeByte, isFull, sameStage, feedOf}
+use Rattle.schedule.specs.Gathering.{lineLength, bytesOf}
 use Rattle.schedule.specs.Records.{recordsFrom}
-use Rattle.schedule.specs.Run.{Run, Told, beginningRun, recordTold, rowsOf, printoutOf}
+use Rattle.schedule.specs.Run.{Told, beginningRun, recordTold, rowsOf, printoutOf}
 use Rattle.schedule.specs.WholeInput.{Action, offer, flush, Caller, output, started, act, acts, Whole}
-use Rattle.schedule.specs.declared.Stage.the-variants.{Over}
 use Rattle.schedule.proofs.Kept.{Keeps, keeps-nothing, told-kept}
 use Rattle.schedule.proofs.Owed.{told-short, output-more, Owes, over-rows, byte-owes}
 

@@ -19,11 +19,18 @@ pub record Feeding : Type 0 where
   pub out : List ℕ
   pub len : ℕ
 
+abbrev pub runOf : Session → List ℕ → Run
+runOf session words = record { stage = session .stage; board = session .board; words = words; count = session .count }
+
+-- a run with nothing held of its next record
+abbrev pub sessionOf : Run → Session
+sessionOf run = record { stage = run .stage; board = run .board; count = run .count; held = 0; cr = false }
+
 -- a session with the line, the words and the output that are lent to it
 abbrev pub feeding : Session → List ℕ → List ℕ → List ℕ → ℕ → Feeding
 feeding session line words out len =
     record {
-      run = record { stage = session .stage; board = session .board; words = words; count = session .count };
+      run = runOf session words;
       held = record { line = line; held = session .held; cr = session .cr };
       out = out;
       len = len;

@@ -4,3 +4,6 @@ pub mod Listing
 pub mod Gathering
 pub mod Feeding
 pub mod WholeInput
+pub mod Order
+pub mod Moves
+pub mod Answering

@@ -50,26 +50,26 @@ pub record Told : Type 0 where
 abbrev pub beginningRun : Run
 beginningRun = record { stage = Waiting; board = blankBoard; words = replicate 144 0; count = 0 }
 
-abbrev pub ended : Run → Run
-ended run = record { stage = Over; board = run .board; words = run .words; count = run .count }
+abbrev pub ended : Run → List ℕ → Run
+ended run words = record { stage = Over; board = run .board; words = words; count = run .count }
 
 -- a refused set-up prints `0,,setup,refused,,n,,,` with its number n and ends the run
 abbrev pub setUpRow : Refusal → Row
 setUpRow why = record { number = 0; who = SetUp; answer = RefusedAnswer why; «open» = Blank; w = 0; values = noValues }
 
-abbrev pub setUpRefused : Run → Refusal → Told
-setUpRefused run why = record { printed = rowOf (setUpRow why); run = ended run }
+abbrev pub setUpRefused : Run → List ℕ → Refusal → Told
+setUpRefused run words why = record { printed = rowOf (setUpRow why); run = ended run words }
 
 -- an accepted set-up prints no row
 abbrev pub bySetUp : Run → Start → Board → List ℕ → Told
 bySetUp run Ready board words =
     record { printed = []; run = record { stage = Running; board = board; words = words; count = 0 } }
-bySetUp run (StartRefused why) board words = setUpRefused run why
+bySetUp run (StartRefused why) board words = setUpRefused run words why
 
 abbrev pub bySettings : Run → SettingsRead → Told
 bySettings run (Read s) =
     bySetUp run (setUpRule s (run .words) .0 .start) (setUpRule s (run .words) .0 .board) (setUpRule s (run .words) .1)
-bySettings run (SettingsRefused why) = setUpRefused run why
+bySettings run (SettingsRefused why) = setUpRefused run (run .words) why
 
 unfoldable pub setUpTold : Run → List ℕ → Told
 setUpTold run bytes = bySettings run (settingsOf bytes)
@@ -140,7 +140,7 @@ abbrev pub mostRecords : ℕ
 mostRecords = 1000000
 
 abbrev pub tooManyTold : Run → Told
-tooManyTold run = record { printed = rowOf (nobodysRow (mostRecords + 1) TooManyRecords); run = ended run }
+tooManyTold run = record { printed = rowOf (nobodysRow (mostRecords + 1) TooManyRecords); run = ended run (run .words) }
 
 unfoldable pub scheduleTold : Run → List ℕ → Told
 scheduleTold run bytes =

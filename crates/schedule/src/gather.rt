@@ -5,9 +5,7 @@ ghost use Prim.Native.Nat.{_≤_, _<_};
 ghost use lib.Dec.{eqb};
 ghost use lib.ListN.{length, drop};
 ghost use Rattle.schedule.specs.Gathering.{lineLength, Held, put, closes, gatherOf};
-
-// A record over 512 bytes is refused; its first 513 show that.
-pub const LINE_LENGTH: usize = 513;
+use crate::LINE_LENGTH;
 
 pub struct Found {
     pub held: usize,

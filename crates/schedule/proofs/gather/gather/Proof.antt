@@ -1,17 +1,12 @@
-use borrow.Author.Needs.{needs}
 use native.Mathlib.Omega.{arith}
-use Prim.Native.Nat.{ℕ, _≤_, _<_, _+_, _-_}
+use Prim.Native.Nat.{_≤_, _<_, _+_, _-_}
 use mathlib.Core.Bool.{true}
 use mathlib.Core.Path.{_≡_, ap, refl, sym, _∙_}
 use lib.ListN.{length, drop, getD}
-use Rattle.schedule.specs.Gathering.{Held, Gathered, lineLength, gatherOf}
+use Rattle.schedule.specs.Gathering.{Held, lineLength, gatherOf}
 use Rattle.schedule.proofs.Gathering.{gather-closed, gather-more, gather-end, put-byte, closes-by}
 use Rattle.schedule.proofs.gather.gather.Statement.{statement}
 use Rattle.schedule.proofs.gather.gather.Tie as tie
-use Rattle.schedule.proofs.gather.gather.Reads as reads
-use Rattle.schedule.proofs.gather.gather.Lts as lts
-use Rattle.schedule.proofs.gather.is_closing.Reads as is-closing-reads
-use Rattle.schedule.proofs.gather.keep_byte.Reads as keep-byte-reads
 
 abbrev Inv-loop : tie.InvT-loop
 Inv-loop held cr chunk at line₀ kept₀ last₀ i₀ line kept last i =
