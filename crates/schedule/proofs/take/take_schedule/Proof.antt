@@ -1,0 +1,56 @@
+-- `take_schedule` meets its contract: by the number of records so far. Assumes nothing.
+use Rattle.schedule.proofs.Tellings.{within-records, past-records}
+use borrow.Author.Needs.{needs}
+use Rattle.schedule.proofs.take.take_schedule.Statement.{statement}
+use Rattle.schedule.proofs.take.take_schedule.Tie as tie
+
+read-schedule-requires : tie.Need-read-schedule-requires
+read-schedule-requires c κs = search needs
+
+take-read-requires : tie.Need-take-read-requires
+take-read-requires c κs = (c .before .before .before .before .before .before .before .before .before .before .pre .0, c .before .before .before .before .before .if1 .taken, c .before .before .before .before .before .before .before .before .before .before .pre .1)
+
+same-length : tie.Need-same-length
+same-length c = search needs
+
+same-length-2 : tie.Need-same-length-2
+same-length-2 c = search needs
+
+returns : tie.Need-returns
+returns c =
+    let a = c .before .before .before .before .before .before .before .before .before .before .before .before .before .before .before .args in
+    within-records (a .session) (a .mem .now) (a .out .now) (a .len) (a .bytes .now) _ _ _ _ _ (c .before .before .before .before .before .before .before .before .before .before .if1 .taken) (c .before .before .before .before .before .before .before .read-schedule .ensures)
+    (c .before .before .before .before .take-read .ensures)
+
+add-nobodys-row : tie.Need-add-nobodys-row
+add-nobodys-row c = search needs
+
+nobodys-row-requires : tie.Need-nobodys-row-requires
+nobodys-row-requires c κs = search needs
+
+end-with-requires : tie.Need-end-with-requires
+end-with-requires c κs = search needs
+
+same-length-3 : tie.Need-same-length-3
+same-length-3 c = search needs
+
+returns-2 : tie.Need-returns-2
+returns-2 c =
+    let a = c .before .before .before .before .before .before .before .before .before .before .args in
+    past-records (a .session) (a .mem .now) (a .out .now) (a .len) (a .bytes .now) _ _ _ _ (c .before .before .before .before .before .if1 .left) (c .before .before .before .before .nobodys-row .ensures)
+    (c .before .before .end-with .ensures)
+
+pub take-schedule-spec : {M : Type 1} → statement M
+take-schedule-spec =
+    tie.close
+    (tie.spec
+    read-schedule-requires
+    take-read-requires
+    same-length
+    same-length-2
+    returns
+    add-nobodys-row
+    nobodys-row-requires
+    end-with-requires
+    same-length-3
+    returns-2)

@@ -1,0 +1,44 @@
+// A record answered and its row written: a schedule record on the one process that it moves, and the set-up.
+ghost use mathlib.Core.Path.{_≡_};
+ghost use Prim.Native.Nat.{_-_, _≤_};
+ghost use lib.ListN.{length};
+ghost use Rattle.rules.specs.Bounds.{Sized};
+ghost use Rattle.rules.specs.Sizes.{wordsUsed};
+ghost use Rattle.rules.proofs.Shapes.{Sound, Clean};
+ghost use Rattle.printout.specs.Writing.{longestRow};
+ghost use Rattle.schedule.specs.Answering.{Answers};
+use crate::moves::moves;
+use crate::rows::row_by;
+use printout::put_row;
+use record::Entry;
+use rules::Process;
+use rules::Settings;
+
+// A process after a record, and the output's next place after the row.
+pub struct Taken {
+    pub process: Process,
+    pub len: usize,
+}
+
+pub(crate) fn answer(
+    number: u64,
+    s: Settings,
+    entry: Entry,
+    values: [u64; 4],
+    p: Process,
+    mem: &mut [u64],
+    out: &mut [u8],
+    len: usize,
+) -> Taken
+    requires { ⌜ Sized s × (wordsUsed s ≤ length (now mem)) × Sound s p × Clean s (now mem) × (longestRow ≤ length (now out) - len) ⌝ }
+    ensures { λ r. ⌜ Answers number s entry values p (now (mem .entry)) (now (out .entry)) len (r .process) (now (mem .exit)) (now (out .exit)) (r .len) ⌝ }
+{
+    let moved = moves(s, entry, values, p, mem);
+    let row = row_by(number, s, entry, moved);
+    let next = put_row(row, out, len);
+    let process = moved.process;
+    Taken {
+        process: process,
+        len: next,
+    }
+}

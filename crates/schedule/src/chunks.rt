@@ -1,0 +1,156 @@
+// Bytes of the input fed to a run, as far as there is room for rows.
+ghost use mathlib.Core.Path.{_≡_};
+ghost use mathlib.Core.List.{List};
+ghost use Prim.Native.Nat.{ℕ, _-_, _≤_};
+ghost use lib.Dec.{ltb};
+ghost use lib.ListN.{length, drop};
+ghost use Rattle.printout.specs.Writing.{longestRow};
+ghost use Rattle.schedule.specs.Feeding.{Feeding, feeding, feedOf};
+ghost use Rattle.schedule.specs.Order.{Ready};
+ghost use Rattle.schedule.specs.declared.Stage.the-variants.{Waiting, Running};
+use crate::Fed;
+use crate::MOST_RECORDS;
+use crate::Session;
+use crate::Stage;
+use crate::answers::answer;
+use crate::ends::end_with;
+use crate::gather::gather;
+use crate::moves::slot;
+use crate::rows::nobodys_row;
+use crate::setup::take_set_up;
+use printout::LONGEST_ROW;
+use record::read_schedule;
+use rules::Board;
+use word::Refusal;
+
+// There may be no room for another row.
+pub(crate) fn is_full(lent: usize, len: usize) -> bool
+    ensures { λ r. ⌜ r ≡ ltb (lent - len) longestRow ⌝ }
+{
+    if len < lent {
+        lent - len < LONGEST_ROW
+    } else {
+        true
+    }
+}
+
+// A running session with its parts; the record that is gathered.
+fn running(board: Board, count: u64, held: usize, cr: bool) -> Session
+    ensures { λ r. ⌜ r ≡ record { stage = Running; board = board; count = count; held = held; cr = cr } ⌝ }
+{
+    Session {
+        stage: Stage::Running,
+        board: board,
+        count: count,
+        held: held,
+        cr: cr,
+    }
+}
+
+// Up to the end of the set-up record.
+pub(crate) fn feed_set_up(
+    session: Session,
+    chunk: &[u8],
+    at: usize,
+    line: &mut [u8],
+    mem: &mut [u64],
+    out: &mut [u8],
+    len: usize,
+) -> Fed
+    requires { ⌜ (session .stage ≡ Waiting) × Ready session (now line) (now mem) × (at ≤ length (now chunk)) × (longestRow ≤ length (now out) - len) ⌝ }
+    ensures fed { λ r. ⌜ _≡_ {A = Feeding × List ℕ} (feeding (r .session) (now (line .exit)) (now (mem .exit)) (now (out .exit)) (r .len), drop (r .next) (now (chunk .entry))) (feedOf (feeding session (now (line .entry)) (now (mem .entry)) (now (out .entry)) len) (drop at (now (chunk .entry)))) ⌝ }
+    ensures ready { λ r. ⌜ Ready (r .session) (now (line .exit)) (now (mem .exit)) × (r .next ≤ length (now (chunk .entry))) ⌝ }
+{
+    let found = gather(session.held, session.cr, chunk, at, line);
+    let held = found.held;
+    if found.closed {
+        let next = take_set_up(session, &line[..held], mem, out, len);
+        let after = next.session;
+        return Fed {
+            session: after,
+            next: found.next,
+            len: next.len,
+        };
+    }
+    let board = session.board;
+    Fed {
+        session: Session {
+            stage: Stage::Waiting,
+            board: board,
+            count: session.count,
+            held: held,
+            cr: found.cr,
+        },
+        next: found.next,
+        len: len,
+    }
+}
+
+// The board stays in a local, and each record takes one process out of it and puts it back.
+pub(crate) fn feed_running(
+    session: Session,
+    chunk: &[u8],
+    at: usize,
+    line: &mut [u8],
+    mem: &mut [u64],
+    out: &mut [u8],
+    len: usize,
+) -> Fed
+    requires { ⌜ (session .stage ≡ Running) × Ready session (now line) (now mem) × (at ≤ length (now chunk)) ⌝ }
+    ensures fed { λ r. ⌜ _≡_ {A = Feeding × List ℕ} (feeding (r .session) (now (line .exit)) (now (mem .exit)) (now (out .exit)) (r .len), drop (r .next) (now (chunk .entry))) (feedOf (feeding session (now (line .entry)) (now (mem .entry)) (now (out .entry)) len) (drop at (now (chunk .entry)))) ⌝ }
+    ensures ready { λ r. ⌜ Ready (r .session) (now (line .exit)) (now (mem .exit)) × (r .next ≤ length (now (chunk .entry))) ⌝ }
+{
+    let mut board = session.board;
+    let s = board.settings;
+    let mut count = session.count;
+    let mut held = session.held;
+    let mut cr = session.cr;
+    let mut next = at;
+    let mut size = len;
+    while next < chunk.len() {
+        if is_full(out.len(), size) {
+            return Fed {
+                session: running(board, count, held, cr),
+                next: next,
+                len: size,
+            };
+        }
+        let found = gather(held, cr, chunk, next, line);
+        held = found.held;
+        cr = found.cr;
+        next = found.next;
+        if found.closed {
+            if count >= MOST_RECORDS {
+                let last = end_with(
+                    nobodys_row(MOST_RECORDS + 1, Refusal::TooManyRecords),
+                    running(board, count, held, cr),
+                    out,
+                    size,
+                );
+                let after = last.session;
+                return Fed {
+                    session: after,
+                    next: next,
+                    len: last.len,
+                };
+            }
+            let read = read_schedule(&line[..held], s.w);
+            let entry = read.entry;
+            let values = read.values;
+            let me = slot(entry, s.n);
+            let p = board.processes[me];
+            let taken = answer(count + 1, s, entry, values, p, mem, out, size);
+            let q = taken.process;
+            board.processes[me] = q;
+            size = taken.len;
+            count += 1;
+            held = 0;
+            cr = false;
+        }
+    }
+    Fed {
+        session: running(board, count, held, cr),
+        next: next,
+        len: size,
+    }
+}

@@ -1,0 +1,151 @@
+// A run of the program from bytes in to bytes out: records are gathered across chunks, each is answered by the rules, and
+// its row is written.
+ghost use mathlib.Core.Path.{_≡_};
+ghost use mathlib.Core.List.{List};
+ghost use Prim.Native.Nat.{ℕ, _-_, _≤_};
+ghost use lib.ListN.{length, drop};
+ghost use Rattle.rules.specs.Entry.{blankBoard};
+ghost use Rattle.printout.specs.Writing.{Written, putHeading, longestRow};
+ghost use Rattle.schedule.specs.Feeding.{Feeding, feeding, sessionOf, feedOf, finishOf};
+ghost use Rattle.schedule.specs.Order.{Ready};
+ghost use Rattle.schedule.specs.Run.{beginningRun};
+
+mod answers;
+mod chunks;
+mod ends;
+mod gather;
+mod moves;
+mod rows;
+mod setup;
+mod take;
+
+use printout::put_heading;
+use rules::Board;
+use rules::Kind;
+use rules::Place;
+use rules::Process;
+use rules::Settings;
+use word::Layout;
+
+// Schedule records after this many are refused.
+pub const MOST_RECORDS: u64 = 1000000;
+
+pub const LINE_LENGTH: usize = 513;
+
+// Waiting for the set-up, running, or over.
+pub enum Stage {
+    Waiting,
+    Running,
+    Over,
+}
+
+// A run between two chunks. `held` bytes of the next record stand in a lent line; `cr`: the last of them was a CR.
+pub struct Session {
+    pub stage: Stage,
+    pub board: Board,
+    pub count: u64,
+    pub held: usize,
+    pub cr: bool,
+}
+
+// A run after a record or at its start, and how many bytes the output holds.
+pub struct Next {
+    pub session: Session,
+    pub len: usize,
+}
+
+// A run after some bytes: the place of the next byte, and how many bytes the output holds.
+pub struct Fed {
+    pub session: Session,
+    pub next: usize,
+    pub len: usize,
+}
+
+fn no_board() -> Board
+    ensures { λ r. ⌜ r ≡ blankBoard ⌝ }
+{
+    let p = Process {
+        place: Place::Idle,
+        opened: 0,
+        keep: [0; 16],
+        values: [0; 4],
+        gathered: [0; 4],
+    };
+    let processes = [p; 16];
+    Board {
+        settings: Settings {
+            kind: Kind::One,
+            n: 0,
+            t: 0,
+            w: 0,
+            layout: Layout { bits: 0 },
+        },
+        processes: processes,
+    }
+}
+
+// A run that waits for its set-up; the heading is written.
+pub fn start(out: &mut [u8]) -> Next
+    ensures { λ r. ⌜ (r .session ≡ sessionOf beginningRun) × (_≡_ {A = Written} (now (out .exit), r .len) (putHeading (now (out .entry)) 0)) ⌝ }
+{
+    let len = put_heading(out, 0);
+    let board = no_board();
+    Next {
+        session: Session {
+            stage: Stage::Waiting,
+            board: board,
+            count: 0,
+            held: 0,
+            cr: false,
+        },
+        len: len,
+    }
+}
+
+// Bytes of the chunk from `at` on, until none is left, there is no room for another row, or the stage changes.
+pub fn feed(
+    session: Session,
+    chunk: &[u8],
+    at: usize,
+    line: &mut [u8],
+    mem: &mut [u64],
+    out: &mut [u8],
+    len: usize,
+) -> Fed
+    requires { ⌜ Ready session (now line) (now mem) × (at ≤ length (now chunk)) ⌝ }
+    ensures fed { λ r. ⌜ _≡_ {A = Feeding × List ℕ} (feeding (r .session) (now (line .exit)) (now (mem .exit)) (now (out .exit)) (r .len), drop (r .next) (now (chunk .entry))) (feedOf (feeding session (now (line .entry)) (now (mem .entry)) (now (out .entry)) len) (drop at (now (chunk .entry)))) ⌝ }
+    ensures ready { λ r. ⌜ Ready (r .session) (now (line .exit)) (now (mem .exit)) × (r .next ≤ length (now (chunk .entry))) ⌝ }
+{
+    if chunks::is_full(out.len(), len) {
+        return Fed {
+            session: session,
+            next: at,
+            len: len,
+        };
+    }
+    let stage = session.stage;
+    match stage {
+        Stage::Waiting => chunks::feed_set_up(session, chunk, at, line, mem, out, len),
+        Stage::Running => chunks::feed_running(session, chunk, at, line, mem, out, len),
+        Stage::Over => Fed {
+            session: session,
+            next: chunk.len(),
+            len: len,
+        },
+    }
+}
+
+// The input has ended: a last record without its pair is answered.
+pub fn finish(session: Session, line: &[u8], mem: &mut [u64], out: &mut [u8], len: usize) -> Next
+    requires { ⌜ Ready session (now line) (now mem) × (longestRow ≤ length (now out) - len) ⌝ }
+    ensures { λ r. ⌜ feeding (r .session) (now (line .entry)) (now (mem .exit)) (now (out .exit)) (r .len) ≡ finishOf (feeding session (now (line .entry)) (now (mem .entry)) (now (out .entry)) len) ⌝ }
+{
+    let held = session.held;
+    if held == 0 {
+        return Next {
+            session: session,
+            len: len,
+        };
+    }
+    take::take_record(session, &line[..held], mem, out, len)
+}
