@@ -21,7 +21,7 @@ use std::time::{Duration, Instant};
 const USAGE: &str = "usage: compare PROGRAM [--schedules N] [--seed S] [--examples DIR]
                            [--only INDEX] [--no-limit]
        compare --print INDEX [--seed S]
-       compare --print-long N [--seed S]
+       compare --print-long N [--set-up RECORD] [--seed S]
 
 PROGRAM is run on each schedule, standard input to standard output, and its
 printout compared with the plain stepper's.
@@ -31,7 +31,8 @@ printout compared with the plain stepper's.
 --only INDEX    only this one schedule
 --no-limit      leave out the two runs at the limit of 1,000,000 records
 --print INDEX   write this schedule to standard output and compare nothing
---print-long N  write a schedule of N records on the widest board, to time by";
+--print-long N  write a schedule of N records to time by, on the board of --set-up
+                (by default the widest, with 16 tag bits)";
 
 const DEFAULT_SCHEDULES: u64 = 3_000;
 const DEFAULT_SEED: u64 = 1997;
@@ -55,6 +56,7 @@ struct Options {
     limit: bool,
     print: Option<u64>,
     print_long: Option<u64>,
+    set_up: String,
 }
 
 fn main() -> ExitCode {
@@ -79,7 +81,7 @@ fn perform(options: &Options) -> Result<(), Failure> {
         return write_out(&generate::schedule(seed, index).bytes);
     }
     if let Some(count) = options.print_long {
-        return write_out(&generate::long(seed, count));
+        return write_out(&generate::long(seed, count, &options.set_up));
     }
     match &options.program {
         Some(program) => compare_all(program, options),
@@ -97,6 +99,7 @@ fn read_options() -> Result<Options, Failure> {
         limit: true,
         print: None,
         print_long: None,
+        set_up: "16,many,16,16,4,,".to_string(),
     };
     let mut arguments = std::env::args().skip(1);
     while let Some(argument) = arguments.next() {
@@ -107,6 +110,7 @@ fn read_options() -> Result<Options, Failure> {
             "--only" => number().map(|index| options.only = Some(index)),
             "--print" => number().map(|index| options.print = Some(index)),
             "--print-long" => number().map(|count| options.print_long = Some(count)),
+            "--set-up" => arguments.next().map(|record| options.set_up = record),
             "--examples" => {
                 options.examples = arguments.next().map(PathBuf::from);
                 options.examples.is_some().then_some(())

@@ -95,10 +95,10 @@ pub fn counted(count: u64) -> Vec<u8> {
     bytes
 }
 
-/// A schedule of `count` records on the widest board, none meant to be refused.
-pub fn long(seed: u64, count: u64) -> Vec<u8> {
+/// A schedule of `count` records behind a set-up record, none meant to be refused.
+pub fn long(seed: u64, count: u64, setup: &str) -> Vec<u8> {
     let mut random = Random::new(seed, 0);
-    let mut writer = Writer::new(&mut random, setup("many", 16, 16, 48, 4));
+    let mut writer = Writer::new(&mut random, setup.as_bytes().to_vec());
     for _ in 0..count {
         writer.likely_record();
     }
