@@ -1,19 +1,20 @@
 -- For callers: a start is ready, and what the output holds stays within it. Assumes nothing.
 use Prim.Native.Nat.{ℕ, _+_, _-_, _≤_}
-use mathlib.Core.Path.{_≡_, refl, sym, subst}
+use mathlib.Core.Path.{_≡_, refl, sym, ap, _∙_, subst}
 use mathlib.Core.Bool.{Bool, true, false, cond}
 use mathlib.Core.List.{List, [], _∷_}
 use native.Mathlib.Omega.{arith}
-use borrow.Author.Tests.{ltb-false, leb-true}
+use borrow.Author.Tests.{ltb-false, leb-true, le-leb}
 use lib.Dec.{eqb, leb}
-use lib.ListN.{length}
+use lib.ListN.{length, replicate}
 use lib.Seq.{sets, length-sets}
 use Rattle.printout.specs.Row.{heading}
 use Rattle.printout.specs.Writing.{Written, putHeading, longestRow}
-use Rattle.schedule.specs.Feeding.{Feeding, sessionOf, holding, telling, answered, gathering, takeIn, takeByte, isFull, sameStage, feedOf, finishIn, finishOf}
+use Rattle.schedule.specs.Feeding.{Feeding, feeding, sessionOf, holding, telling, answered, gathering, takeIn, takeByte, isFull, sameStage, feedOf, finishIn, finishOf}
 use Rattle.schedule.specs.Gathering.{lineLength, bytesOf, put, closes}
 use Rattle.schedule.specs.Order.{Ready}
 use Rattle.schedule.specs.Run.{beginningRun, recordTold}
+use Rattle.schedule.specs.WholeInput.{started}
 use Rattle.schedule.specs.declared.Session.{Session}
 use Rattle.schedule.specs.declared.Stage.{Stage}
 use Rattle.schedule.specs.declared.Stage.the-variants.{Waiting, Running, Over}
@@ -81,3 +82,13 @@ started-within out out-after len e = subst (λ (w : Written). w .1 ≤ length (w
 pub start-ready : (session : Session) (line words : List ℕ) → session ≡ sessionOf beginningRun → length line ≡ lineLength → Ready session line words
 start-ready session line words e long =
     subst (λ (s : Session). Ready s line words) (sym e) (record { order = λ q. still-waits q; held = omega arith; long = long })
+
+-- `start`, a line and 144 words that are 0 make the caller with which the whole-input theorem begins
+pub start-is : (session : Session) (line out out-after : List ℕ) (len : ℕ) → session ≡ sessionOf beginningRun
+    → _≡_ {A = Written} (out-after, len) (putHeading out 0) → longestRow ≤ length out
+    → feeding session line (replicate 144 0) out-after len ≡ started line out .feeding
+start-is session line out out-after len e put room =
+    let fits : length heading ≤ length out - 0 = omega arith in
+    let whole = put ∙ ap (λ (t : Bool). cond t (sets out 0 heading, 0 + length heading) (out, 0)) (le-leb (length heading) (length out - 0) fits) in
+    ap (λ (s : Session). feeding s line (replicate 144 0) out-after len) e
+    ∙ ap (λ (w : Written). feeding (sessionOf beginningRun) line (replicate 144 0) (w .0) (w .1)) whole

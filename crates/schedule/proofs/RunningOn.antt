@@ -53,11 +53,6 @@ served board words o me mine =
       clean = clean-words board words (o .form);
     }
 
--- the board is in order after a record, and has the same settings
-pub record Goes (board : Board) (words : List ℕ) (s : Settings) : Type 0 where
-  pub order : InOrder board words
-  pub settings : board .settings ≡ s
-
 module _ (board : Board) (count held : ℕ) (cr : Bool) (line words out : List ℕ) (len : ℕ) (bytes : List ℕ) (h : Held) (left : List ℕ) (closed : Bool)
     (room : longestRow ≤ length out - len)
     (g : record { held = h; left = left; closed = closed } ≡ gatherOf (record { line = line; held = held; cr = cr }) bytes) where
@@ -93,16 +88,19 @@ module _ (board : Board) (count held : ℕ) (cr : Bool) (line words out : List �
         (at ∙ ap (λ (z : Settings). slotOf (read .entry) (z .n)) (sym same))
         (subst (λ (z : Settings). Answers (count + 1) z (read .entry) (read .values) (processAt board me) words out len q words-after out-after next) (sym same) k)))
 
-    pub goes : Goes (putProcess board me q) words-after s
-    goes =
-        record {
-          order = session-order (recordTold (runOf (running board count held cr) words) (bytesOf h)) out len (running (putProcess board me q) (count + 1) 0 false) words-after out-after next told
-              (record-order (runOf (running board count held cr) words) (bytesOf h) (λ i. o)) refl;
-          settings = same;
-        }
+    order : InOrder (putProcess board me q) words-after
+    order =
+        session-order (recordTold (runOf (running board count held cr) words) (bytesOf h)) out len (running (putProcess board me q) (count + 1) 0 false)
+        words-after out-after next told (record-order (runOf (running board count held cr) words) (bytesOf h) (λ i. o)) refl
 
-    pub answered-on : feedOf (feeding (running (putProcess board me q) (count + 1) 0 false) (h .line) words-after out-after next) left
+    answered-on : feedOf (feeding (running (putProcess board me q) (count + 1) 0 false) (h .line) words-after out-after next) left
         ≡ feedOf (feeding (running board count held cr) line words out len) bytes
     answered-on =
         fed-on (running board count held cr) line words out len bytes h left closed room running-reads g (running (putProcess board me q) (count + 1) 0 false) words-after out-after next e told
         (stage-is (runOf (running board count held cr) words) (runOf (running (putProcess board me q) (count + 1) 0 false) words-after) Running Running refl refl)
+
+    -- the board is in order and has the same settings, and feeding goes on
+    pub goes-on : InOrder (putProcess board me q) words-after × (board .settings ≡ s)
+        × (feedOf (feeding (running (putProcess board me q) (count + 1) 0 false) (h .line) words-after out-after next) left
+        ≡ feedOf (feeding (running board count held cr) line words out len) bytes)
+    goes-on = (order, same, answered-on)

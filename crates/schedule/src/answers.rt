@@ -1,5 +1,4 @@
 // A record answered and its row written: a schedule record on the one process that it moves, and the set-up.
-ghost use mathlib.Core.Path.{_≡_};
 ghost use Prim.Native.Nat.{_-_, _≤_};
 ghost use lib.ListN.{length};
 ghost use Rattle.rules.specs.Bounds.{Sized};

@@ -1,5 +1,4 @@
 // The end of a run: its last row is written.
-ghost use mathlib.Core.Path.{_≡_};
 ghost use Prim.Native.Nat.{_-_, _≤_};
 ghost use lib.ListN.{length};
 ghost use Rattle.printout.specs.Writing.{longestRow};

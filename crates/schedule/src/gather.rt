@@ -1,10 +1,10 @@
 // Gathering a record in a lent line, from the bytes of a chunk, up to its closing CR LF.
 ghost use mathlib.Core.Path.{_≡_};
 ghost use mathlib.Core.Bool.{false, _&&_};
-ghost use Prim.Native.Nat.{_≤_, _<_};
+ghost use Prim.Native.Nat.{_≤_};
 ghost use lib.Dec.{eqb};
 ghost use lib.ListN.{length, drop};
-ghost use Rattle.schedule.specs.Gathering.{lineLength, Held, put, closes, gatherOf};
+ghost use Rattle.schedule.specs.Gathering.{lineLength, put, gatherOf};
 use crate::LINE_LENGTH;
 
 pub struct Found {

@@ -30,6 +30,7 @@ use word::Layout;
 // Schedule records after this many are refused.
 pub const MOST_RECORDS: u64 = 1000000;
 
+// A record over 512 bytes is refused whatever it holds; the first 513 show that, and no more are kept.
 pub const LINE_LENGTH: usize = 513;
 
 // Waiting for the set-up, running, or over.

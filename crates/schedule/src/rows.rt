@@ -1,10 +1,9 @@
 // The rows of the printout: of a schedule record by the process that it moved, and of a refused set-up.
 ghost use mathlib.Core.Path.{_≡_};
 ghost use mathlib.Core.Bool.{true};
-ghost use Prim.Native.Nat.{_+_};
 ghost use Rattle.rules.specs.GoodForm.{openFits};
 ghost use Rattle.schedule.specs.Moves.{openIn, processRow, rowBy};
-ghost use Rattle.schedule.specs.Run.{setUpRow, callAct, nobodysRow, mostRecords};
+ghost use Rattle.schedule.specs.Run.{setUpRow, callAct, nobodysRow};
 use board::one_process::sequences_open;
 use printout::Open;
 use printout::Row;

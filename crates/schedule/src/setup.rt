@@ -1,5 +1,4 @@
 // The set-up record answered: an accepted one prints nothing, a refused one its row, and ends the run.
-ghost use mathlib.Core.Path.{_≡_};
 ghost use Prim.Native.Nat.{_-_, _≤_};
 ghost use lib.ListN.{length};
 ghost use Rattle.record.specs.declared.setup.SettingsRead.the-variants.{Read};

@@ -1,5 +1,4 @@
 // One whole record answered: the set-up, a schedule record, or, when the run is over, nothing.
-ghost use mathlib.Core.Path.{_≡_};
 ghost use Prim.Native.Nat.{_-_, _≤_, _<_};
 ghost use lib.ListN.{length};
 ghost use Rattle.printout.specs.Writing.{longestRow};

@@ -26,7 +26,11 @@ enum-told : tie.Need-enum-told
 enum-told c = search needs
 
 feed-set-up-requires : tie.Need-feed-set-up-requires
-feed-set-up-requires c κs = (c .before .before .before .enum-told .given .1, c .before .before .before .before .before .before .before .before .before .before .before .pre .0, c .before .before .before .before .before .before .before .before .before .before .before .pre .1, room _ _ (c .before .before .before .before .before .before .is-full .ensures) (c .before .before .before .before .before .if1 .left))
+feed-set-up-requires c κs =
+    let at-if1 = c .before .before .before .before .before in
+    let at-is-full = at-if1 .before in
+    let start = at-is-full .before .before .before .before .before in
+    (c .before .before .before .enum-told .given .1, start .pre .0, start .pre .1, room _ _ (at-is-full .is-full .ensures) (at-if1 .if1 .left))
 
 enum-told-2 : tie.Need-enum-told-2
 enum-told-2 c = search needs

@@ -14,9 +14,10 @@ finish-requires c κs = search needs
 
 flush-requires-2 : tie.Need-flush-requires-2
 flush-requires-2 c κs =
-    let start = c .before .before .before .before .before .before .before .before .before .before .before .before .before in
+    let at-finish = c .before .before .before .before .before in
+    let start = at-finish .before .before .before .before .before .before .before .before in
     let a = start .args in
-    finished-within (feeding (a .session) (a .line .now) (a .mem .now) (a .out .now) 0) _ (c .before .before .before .before .before .finish .ensures) (omega (arith, start .pre .2))
+    finished-within (feeding (a .session) (a .line .now) (a .mem .now) (a .out .now) 0) _ (at-finish .finish .ensures) (omega (arith, start .pre .2))
 
 same-length : tie.Need-same-length
 same-length c = search needs

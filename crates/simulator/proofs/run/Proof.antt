@@ -34,14 +34,18 @@ loop-holds c =
     )
 
 turn-requires : tie.Need-turn-requires Inv-loop μ-loop
-turn-requires c κs = (c .before .before .before .before .loop .inv .0, c .before .before .before .before .loop .inv .1)
+turn-requires c κs =
+    let at-loop = c .before .before .before .before in
+    (at-loop .loop .inv .0, at-loop .loop .inv .1)
 
 end-requires : tie.Need-end-requires Inv-loop μ-loop
 end-requires c κs =
-    let taken = c .before .before .before .before .before .before .before .before .before .before .before .before .turn .ensures in (
+    let at-turn = c .before .before .before .before .before .before .before .before .before .before .before .before in
+    let at-loop = at-turn .before .before .before .before .before in
+    let taken = at-turn .turn .ensures in (
       taken .0,
       taken .1,
-      omega (arith, c .before .before .before .before .before .before .before .before .before .before .before .before .before .before .before .before .before .loop .inv .5),
+      omega (arith, at-loop .loop .inv .5),
     )
 
 same-length : tie.Need-same-length Inv-loop μ-loop
@@ -64,13 +68,15 @@ loop-less c = omega arith
 
 loop-again : tie.Need-loop-again Inv-loop μ-loop
 loop-again c =
-    let taken = c .before .before .before .before .before .before .before .before .before .turn .ensures in (
+    let at-turn = c .before .before .before .before .before .before .before .before .before in
+    let at-loop = at-turn .before .before .before .before .before in
+    let taken = at-turn .turn .ensures in (
       taken .0,
       taken .1,
       omega arith,
       omega arith,
       omega arith,
-      omega (arith, c .before .before .before .before .before .before .before .before .before .before .before .before .before .before .loop .inv .5),
+      omega (arith, at-loop .loop .inv .5),
     )
 
 same-length-4 : tie.Need-same-length-4 Inv-loop μ-loop

@@ -18,10 +18,14 @@ abbrev μ-loop : tie.MeasureT-loop
 μ-loop chunk line₀ mem₀ out₀ len run₀ held₀ at₀ turns₀ line mem out run held at turns = turns
 
 loop-holds : tie.Need-loop-holds Inv-loop μ-loop
-loop-holds c = let start = c .before .before .before .before in (start .pre .0, start .pre .1, omega arith, refl, refl, refl)
+loop-holds c =
+    let start = c .before .before .before .before in
+    (start .pre .0, start .pre .1, omega arith, refl, refl, refl)
 
 feed-requires : tie.Need-feed-requires Inv-loop μ-loop
-feed-requires c κs = (c .before .before .before .before .loop .inv .0, c .before .before .before .before .loop .inv .2)
+feed-requires c κs =
+    let at-loop = c .before .before .before .before in
+    (at-loop .loop .inv .0, at-loop .loop .inv .2)
 
 same-length : tie.Need-same-length Inv-loop μ-loop
 same-length c = omega arith
@@ -34,16 +38,22 @@ same-length-3 c = omega arith
 
 returns : tie.Need-returns Inv-loop μ-loop
 returns c =
-    let loop = c .before .before .before .before .before .before .before .before .before .before .before .before .before .loop in
-    let chunk = c .before .before .before .before .before .before .before .before .before .before .before .before .before .before .before .before .before .before .args .chunk .now in
-    let fed = c .before .before .before .before .before .before .before .before .feed .ensures in
+    let at-feed = c .before .before .before .before .before .before .before .before in
+    let at-loop = at-feed .before .before .before .before .before in
+    let start = at-loop .before .before .before .before .before in
+    let loop = at-loop .loop in
+    let chunk = start .args .chunk .now in
+    let fed = at-feed .feed .ensures in
     (fed .1 .0, fed-within (feeding (loop .run) (loop .line) (loop .mem) (loop .out) (loop .held)) _ (drop (loop .at) chunk) _ (fed .0) (loop .inv .1))
 
 flush-requires : tie.Need-flush-requires Inv-loop μ-loop
 flush-requires c κs =
-    let loop = c .before .before .before .before .before .before .before .before .before .before .before .before .before .before .loop in
-    let chunk = c .before .before .before .before .before .before .before .before .before .before .before .before .before .before .before .before .before .before .before .args .chunk .now in
-    let fed = c .before .before .before .before .before .before .before .before .before .feed .ensures in
+    let at-feed = c .before .before .before .before .before .before .before .before .before in
+    let at-loop = at-feed .before .before .before .before .before in
+    let start = at-loop .before .before .before .before .before in
+    let loop = at-loop .loop in
+    let chunk = start .args .chunk .now in
+    let fed = at-feed .feed .ensures in
     fed-within (feeding (loop .run) (loop .line) (loop .mem) (loop .out) (loop .held)) _ (drop (loop .at) chunk) _ (fed .0) (loop .inv .1)
 
 sub-turns : tie.Need-sub-turns Inv-loop μ-loop
@@ -54,10 +64,19 @@ loop-less c = omega arith
 
 loop-again : tie.Need-loop-again Inv-loop μ-loop
 loop-again c =
-    let loop = c .before .before .before .before .before .before .before .before .before .before .before .before .before .before .before .loop in
-    let chunk = c .before .before .before .before .before .before .before .before .before .before .before .before .before .before .before .before .before .before .before .before .args .chunk .now in
-    let fed = c .before .before .before .before .before .before .before .before .before .before .feed .ensures in
-    (fed .1 .0, omega arith, fed .1 .1, omega arith, omega arith, omega arith)
+    let at-out = c .before .before .before .before .before in
+    let at-mem = at-out .before .before in
+    let at-line = at-mem .before .before in
+    let at-feed = at-line .before in
+    let loop = at-feed .before .before .before .before .before .loop in
+    let fed = at-feed .feed .ensures in (
+      fed .1 .0,
+      omega arith,
+      fed .1 .1,
+      omega (arith, loop .inv .3, at-line .line .given),
+      omega (arith, loop .inv .4, at-mem .mem .given),
+      omega (arith, loop .inv .5, at-out .out .given),
+    )
 
 same-length-4 : tie.Need-same-length-4 Inv-loop μ-loop
 same-length-4 c = omega arith

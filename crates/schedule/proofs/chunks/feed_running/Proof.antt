@@ -14,7 +14,7 @@ use Rattle.schedule.specs.declared.Session.{Session}
 use Rattle.schedule.proofs.Feeding.{feed-full}
 use Rattle.schedule.proofs.OneProcess.{all-sized}
 use Rattle.schedule.proofs.Progress.{progress, used-up, open-on, is-full, room, as-running, running-ready, ended-ready}
-use Rattle.schedule.proofs.RunningOn.{running, Served, served, too-many, goes, answered-on}
+use Rattle.schedule.proofs.RunningOn.{running, Served, served, too-many, goes-on}
 use Rattle.schedule.proofs.chunks.feed_running.Statement.{statement}
 use Rattle.schedule.proofs.chunks.feed_running.Tie as tie
 
@@ -49,8 +49,9 @@ same-length-3 c = omega arith
 
 returns : tie.Need-returns Inv-loop μ-loop
 returns c =
-    let loop = c .before .before .before .before .loop in
-    let start = c .before .before .before .before .before .before .before .before .before .before .before in
+    let at-loop = c .before .before .before .before in
+    let start = at-loop .before .before .before .before .before .before .before in
+    let loop = at-loop .loop in
     let a = start .args in
     let whole = loop .inv .8 ∙ as-running (a .session) (a .line .now) (a .mem .now) (a .out .now) (a .len) (drop (a .at) (a .chunk .now)) (start .pre .0) in
     let f = feeding (running (loop .board) (loop .count) (loop .held) (loop .cr)) (loop .line) (loop .mem) (loop .out) (loop .size) in (
@@ -60,7 +61,9 @@ returns c =
     )
 
 gather-requires : tie.Need-gather-requires Inv-loop μ-loop
-gather-requires c κs = (c .before .before .before .before .loop .inv .4, c .before .before .before .before .loop .inv .3, c .before .before .before .before .loop .inv .0)
+gather-requires c κs =
+    let at-loop = c .before .before .before .before in
+    (at-loop .loop .inv .4, at-loop .loop .inv .3, at-loop .loop .inv .0)
 
 add-nobodys-row : tie.Need-add-nobodys-row Inv-loop μ-loop
 add-nobodys-row c = omega arith
@@ -72,26 +75,44 @@ running-requires-2 : tie.Need-running-requires-2 Inv-loop μ-loop
 running-requires-2 c κs = omega arith
 
 end-with-requires : tie.Need-end-with-requires Inv-loop μ-loop
-end-with-requires c κs = room _ _ (c .before .before .before .before .before .before .before .before .before .before .is-full .ensures) (c .before .before .before .before .before .before .before .before .before .if1 .left)
+end-with-requires c κs =
+    let at-if1 = c .before .before .before .before .before .before .before .before .before in
+    let at-is-full = at-if1 .before in
+    room _ _ (at-is-full .is-full .ensures) (at-if1 .if1 .left)
 
 same-length-4 : tie.Need-same-length-4 Inv-loop μ-loop
-same-length-4 c = omega (arith, c .before .before .before .before .before .before .before .before .before .before .before .before .before .before .before .before .loop .inv .5, c .before .before .before .before .before .before .before .before .before .before .before .gather .ensures .1 .2, c .before .before .before .before .before .before .before .before .before .before .before .before .before .before .before .before .loop .inv .4)
+same-length-4 c =
+    let at-gather = c .before .before .before .before .before .before .before .before .before .before .before in
+    let at-loop = at-gather .before .before .before .before .before in
+    omega (arith, at-loop .loop .inv .5, at-gather .gather .ensures .1 .2, at-loop .loop .inv .4)
 
 same-length-5 : tie.Need-same-length-5 Inv-loop μ-loop
-same-length-5 c = omega (arith, c .before .before .before .before .before .before .before .before .before .before .before .before .before .before .before .before .loop .inv .6)
+same-length-5 c =
+    let at-loop = c .before .before .before .before .before .before .before .before .before .before .before .before .before .before .before .before in
+    omega (arith, at-loop .loop .inv .6)
 
 same-length-6 : tie.Need-same-length-6 Inv-loop μ-loop
-same-length-6 c = omega (arith, c .before .before .before .before .before .before .before .before .before .before .before .before .before .before .before .before .loop .inv .7, c .before .before .out .given)
+same-length-6 c =
+    let at-loop = c .before .before .before .before .before .before .before .before .before .before .before .before .before .before .before .before in
+    omega (arith, at-loop .loop .inv .7, c .before .before .out .given)
 
 returns-2 : tie.Need-returns-2 Inv-loop μ-loop
 returns-2 c =
-    let loop = c .before .before .before .before .before .before .before .before .before .before .before .before .before .before .before .before .loop in
-    let start = c .before .before .before .before .before .before .before .before .before .before .before .before .before .before .before .before .before .before .before .before .before .before .before in
+    let at-running2 = c .before .before .before .before .before in
+    let at-nobodys-row = at-running2 .before in
+    let at-if3 = at-nobodys-row .before in
+    let at-if2 = at-if3 .before in
+    let at-gather = at-if2 .before .before .before in
+    let at-if1 = at-gather .before .before in
+    let at-is-full = at-if1 .before in
+    let at-loop = at-is-full .before .before in
+    let start = at-loop .before .before .before .before .before .before .before in
+    let loop = at-loop .loop in
     let a = start .args in
     let whole = loop .inv .8 ∙ as-running (a .session) (a .line .now) (a .mem .now) (a .out .now) (a .len) (drop (a .at) (a .chunk .now)) (start .pre .0) in
-    let gathered = c .before .before .before .before .before .before .before .before .before .before .before .gather .ensures in
+    let gathered = at-gather .gather .ensures in
     let ended = c .before .before .before .end-with .ensures in (
-      too-many (loop .board) (loop .count) (loop .held) (loop .cr) (loop .line) (loop .mem) (loop .out) (loop .size) (drop (loop .next) (a .chunk .now)) _ _ _ (room _ _ (c .before .before .before .before .before .before .before .before .before .before .before .before .before .before .is-full .ensures) (c .before .before .before .before .before .before .before .before .before .before .before .before .before .if1 .left)) (gathered .0) _ _ _ _ _ (c .before .before .before .before .before .before .before .before .if2 .taken) (c .before .before .before .before .before .before .before .if3 .taken) (c .before .before .before .before .before .before .nobodys-row .ensures) (c .before .before .before .before .before .running2 .ensures) ended ∙ whole,
+      too-many (loop .board) (loop .count) (loop .held) (loop .cr) (loop .line) (loop .mem) (loop .out) (loop .size) (drop (loop .next) (a .chunk .now)) _ _ _ (room _ _ (at-is-full .is-full .ensures) (at-if1 .if1 .left)) (gathered .0) _ _ _ _ _ (at-if2 .if2 .taken) (at-if3 .if3 .taken) (at-nobodys-row .nobodys-row .ensures) (at-running2 .running2 .ensures) ended ∙ whole,
       (ended-ready _ _ _ _ _ _ _ _ _ ended (gathered .1 .2), gathered .1 .1),
     )
 
@@ -99,89 +120,124 @@ slice-reshare-prefix-read-schedule : tie.Need-slice-reshare-prefix-read-schedule
 slice-reshare-prefix-read-schedule c = omega arith
 
 slice-aggregate-read-schedule : tie.Need-slice-aggregate-read-schedule Inv-loop μ-loop
-slice-aggregate-read-schedule c = sym (length-take-le _ _ (omega (arith, c .before .before .before .before .before .gather .ensures .1)))
+slice-aggregate-read-schedule c =
+    let at-gather = c .before .before .before .before .before in
+    sym (length-take-le _ _ (omega (arith, at-gather .gather .ensures .1)))
 
 read-schedule-requires : tie.Need-read-schedule-requires Inv-loop μ-loop
 read-schedule-requires c κs = omega arith
 
 slot-requires : tie.Need-slot-requires Inv-loop μ-loop
 slot-requires c κs =
-    let z = all-sized (c .before .before .before .before .before .before .before .before .before .before .before .before .loop .board) (c .before .before .before .before .before .before .before .before .before .before .before .before .loop .mem) (c .before .before .before .before .before .before .before .before .before .before .before .before .loop .inv .1) in
-    omega (arith, z .n-least, ap (λ (z : Settings). z .n) (c .before .before .before .before .before .before .before .before .before .before .before .before .loop .inv .2))
+    let at-loop = c .before .before .before .before .before .before .before .before .before .before .before .before in
+    let z = all-sized (at-loop .loop .board) (at-loop .loop .mem) (at-loop .loop .inv .1) in
+    omega (arith, z .n-least, ap (λ (z : Settings). z .n) (at-loop .loop .inv .2))
 
 mul-p : tie.Need-mul-p Inv-loop μ-loop
 mul-p c =
-    let z = all-sized (c .before .before .before .before .before .before .before .before .before .before .before .before .before .loop .board) (c .before .before .before .before .before .before .before .before .before .before .before .before .before .loop .mem) (c .before .before .before .before .before .before .before .before .before .before .before .before .before .loop .inv .1) in
-    let l : c .slot .result < 16 = omega (arith, c .slot .ensures .1, z .n-most, ap (λ (z : Settings). z .n) (c .before .before .before .before .before .before .before .before .before .before .before .before .before .loop .inv .2)) in
+    let at-loop = c .before .before .before .before .before .before .before .before .before .before .before .before .before in
+    let z = all-sized (at-loop .loop .board) (at-loop .loop .mem) (at-loop .loop .inv .1) in
+    let l : c .slot .result < 16 = omega (arith, c .slot .ensures .1, z .n-most, ap (λ (z : Settings). z .n) (at-loop .loop .inv .2)) in
     record { fits = omega arith }
 
 element-copy-out-p : tie.Need-element-copy-out-p Inv-loop μ-loop
 element-copy-out-p c =
-    let z = all-sized (c .before .before .before .before .before .before .before .before .before .before .before .before .before .loop .board) (c .before .before .before .before .before .before .before .before .before .before .before .before .before .loop .mem) (c .before .before .before .before .before .before .before .before .before .before .before .before .before .loop .inv .1) in
-    omega (arith, c .slot .ensures .1, z .n-most, ap (λ (z : Settings). z .n) (c .before .before .before .before .before .before .before .before .before .before .before .before .before .loop .inv .2))
+    let at-loop = c .before .before .before .before .before .before .before .before .before .before .before .before .before in
+    let z = all-sized (at-loop .loop .board) (at-loop .loop .mem) (at-loop .loop .inv .1) in
+    omega (arith, c .slot .ensures .1, z .n-most, ap (λ (z : Settings). z .n) (at-loop .loop .inv .2))
 
 add-answer : tie.Need-add-answer Inv-loop μ-loop
 add-answer c = omega arith
 
 answer-requires : tie.Need-answer-requires Inv-loop μ-loop
 answer-requires c κs =
-    let loop = c .before .before .before .before .before .before .before .before .before .before .before .before .before .before .before .before .loop in
+    let at-if1 = c .before .before .before .before .before .before .before .before .before .before .before .before .before in
+    let at-is-full = at-if1 .before in
+    let at-loop = at-is-full .before .before in
+    let loop = at-loop .loop in
     let me = c .before .before .before .slot .result in
-    let s = c .before .before .before .before .before .before .before .before .before .before .before .before .before .before .before .before .before .s in
-    let mine : me < loop .board .settings .n = omega (arith, c .before .before .before .slot .ensures .1, ap (λ (z : Settings). z .n) (c .before .before .before .before .before .before .before .before .before .before .before .before .before .before .before .before .loop .inv .2)) in
+    let mine : me < loop .board .settings .n = omega (arith, c .before .before .before .slot .ensures .1, ap (λ (z : Settings). z .n) (at-loop .loop .inv .2)) in
     let k = served (loop .board) (loop .mem) (loop .inv .1) me mine in
     let j = subst (λ (z : Settings). Served z (processAt (loop .board) me) (loop .mem)) (loop .inv .2) k in
-    (j .sizes, j .room, j .process, j .clean, room _ _ (c .before .before .before .before .before .before .before .before .before .before .before .before .before .before .is-full .ensures) (c .before .before .before .before .before .before .before .before .before .before .before .before .before .if1 .left))
+    (j .sizes, j .room, j .process, j .clean, room _ _ (at-is-full .is-full .ensures) (at-if1 .if1 .left))
 
 mul-q : tie.Need-mul-q Inv-loop μ-loop
 mul-q c =
-    let z = all-sized (c .before .before .before .before .before .before .before .before .before .before .before .before .before .before .before .before .before .before .before .before .before .before .loop .board) (c .before .before .before .before .before .before .before .before .before .before .before .before .before .before .before .before .before .before .before .before .before .before .loop .mem) (c .before .before .before .before .before .before .before .before .before .before .before .before .before .before .before .before .before .before .before .before .before .before .loop .inv .1) in
-    let l : c .before .before .before .before .before .before .before .before .before .slot .result < 16 = omega (arith, c .before .before .before .before .before .before .before .before .before .slot .ensures .1, z .n-most, ap (λ (z : Settings). z .n) (c .before .before .before .before .before .before .before .before .before .before .before .before .before .before .before .before .before .before .before .before .before .before .loop .inv .2)) in
+    let at-slot = c .before .before .before .before .before .before .before .before .before in
+    let at-loop = at-slot .before .before .before .before .before .before .before .before .before .before .before .before .before in
+    let z = all-sized (at-loop .loop .board) (at-loop .loop .mem) (at-loop .loop .inv .1) in
+    let l : at-slot .slot .result < 16 = omega (arith, at-slot .slot .ensures .1, z .n-most, ap (λ (z : Settings). z .n) (at-loop .loop .inv .2)) in
     record { fits = omega arith }
 
 element-set-from-q : tie.Need-element-set-from-q Inv-loop μ-loop
 element-set-from-q c =
-    let z = all-sized (c .before .before .before .before .before .before .before .before .before .before .before .before .before .before .before .before .before .before .before .before .before .before .loop .board) (c .before .before .before .before .before .before .before .before .before .before .before .before .before .before .before .before .before .before .before .before .before .before .loop .mem) (c .before .before .before .before .before .before .before .before .before .before .before .before .before .before .before .before .before .before .before .before .before .before .loop .inv .1) in
-    omega (arith, c .before .before .before .before .before .before .before .before .before .slot .ensures .1, z .n-most, ap (λ (z : Settings). z .n) (c .before .before .before .before .before .before .before .before .before .before .before .before .before .before .before .before .before .before .before .before .before .before .loop .inv .2))
+    let at-slot = c .before .before .before .before .before .before .before .before .before in
+    let at-loop = at-slot .before .before .before .before .before .before .before .before .before .before .before .before .before in
+    let z = all-sized (at-loop .loop .board) (at-loop .loop .mem) (at-loop .loop .inv .1) in
+    omega (arith, at-slot .slot .ensures .1, z .n-most, ap (λ (z : Settings). z .n) (at-loop .loop .inv .2))
 
 add-count : tie.Need-add-count Inv-loop μ-loop
 add-count c = omega arith
 
 loop-less : tie.Need-loop-less Inv-loop μ-loop
 loop-less c =
-    let loop = c .before .before .before .before .before .before .before .before .before .before .before .before .before .before .before .before .before .before .before .before .before .before .loop in
-    let a = c .before .before .before .before .before .before .before .before .before .before .before .before .before .before .before .before .before .before .before .before .before .before .before .before .before .before .before .before .before .args in
-    progress _ _ (a .chunk .now) (loop .next) _ _ (c .before .before .before .before .before .before .before .before .before .before .before .before .before .before .before .before .before .before .before .before .before .loop-test .taken) (c .before .before .before .before .before .before .before .before .before .before .before .before .before .before .before .before .before .gather .ensures .0)
+    let at-gather = c .before .before .before .before .before .before .before .before .before .before .before .before .before .before .before .before .before in
+    let at-loop-test = at-gather .before .before .before .before in
+    let at-loop = at-loop-test .before in
+    let start = at-loop .before .before .before .before .before .before .before in
+    let loop = at-loop .loop in
+    let a = start .args in
+    progress _ _ (a .chunk .now) (loop .next) _ _ (at-loop-test .loop-test .taken) (at-gather .gather .ensures .0)
 
 loop-again : tie.Need-loop-again Inv-loop μ-loop
 loop-again c =
-    let loop = c .before .before .before .before .before .before .before .before .before .before .before .before .before .before .before .before .before .before .before .before .before .before .loop in
-    let a = c .before .before .before .before .before .before .before .before .before .before .before .before .before .before .before .before .before .before .before .before .before .before .before .before .before .before .before .before .before .args in
-    let gathered = c .before .before .before .before .before .before .before .before .before .before .before .before .before .before .before .before .before .gather .ensures in
-    let on = goes (loop .board) (loop .count) (loop .held) (loop .cr) (loop .line) (loop .mem) (loop .out) (loop .size) (drop (loop .next) (a .chunk .now)) _ _ _ (room _ _ (c .before .before .before .before .before .before .before .before .before .before .before .before .before .before .before .before .before .before .before .before .is-full .ensures) (c .before .before .before .before .before .before .before .before .before .before .before .before .before .before .before .before .before .before .before .if1 .left)) (gathered .0) (loop .inv .1) _ (loop .inv .2) _ _ _ _ _ _ (c .before .before .before .before .before .before .before .before .before .before .before .before .before .before .if2 .taken) (c .before .before .before .before .before .before .before .before .before .before .before .before .before .if3 .left)
-    (c .before .before .before .before .before .before .before .before .before .before .before .read-schedule .ensures) (c .before .before .before .before .before .before .before .before .before .slot .ensures .0) (c .before .before .before .before .before .answer .ensures) in (
+    let at-out2 = c .before .before in
+    let at-mem = at-out2 .before .before in
+    let at-answer = at-mem .before in
+    let at-slot = at-answer .before .before .before .before in
+    let at-read-schedule = at-slot .before .before in
+    let at-if3 = at-read-schedule .before .before in
+    let at-if2 = at-if3 .before in
+    let at-gather = at-if2 .before .before .before in
+    let at-if1 = at-gather .before .before in
+    let at-is-full = at-if1 .before in
+    let at-loop = at-is-full .before .before in
+    let start = at-loop .before .before .before .before .before .before .before in
+    let loop = at-loop .loop in
+    let a = start .args in
+    let gathered = at-gather .gather .ensures in
+    let on =
+    goes-on (loop .board) (loop .count) (loop .held) (loop .cr) (loop .line) (loop .mem) (loop .out) (loop .size) (drop (loop .next) (a .chunk .now)) _ _ _
+    (room _ _ (at-is-full .is-full .ensures) (at-if1 .if1 .left)) (gathered .0) (loop .inv .1) _ (loop .inv .2) _ _ _ _ _ _ (at-if2 .if2 .taken)
+    (at-if3 .if3 .left) (at-read-schedule .read-schedule .ensures) (at-slot .slot .ensures .0) (at-answer .answer .ensures) in (
       gathered .1 .1,
-      on .order,
-      on .settings,
+      on .0,
+      on .1,
       omega arith,
       gathered .1 .2,
       omega (arith, gathered .1 .2),
-      omega arith,
-      omega arith,
-      answered-on (loop .board) (loop .count) (loop .held) (loop .cr) (loop .line) (loop .mem) (loop .out) (loop .size) (drop (loop .next) (a .chunk .now)) _ _ _ (room _ _ (c .before .before .before .before .before .before .before .before .before .before .before .before .before .before .before .before .before .before .before .before .is-full .ensures) (c .before .before .before .before .before .before .before .before .before .before .before .before .before .before .before .before .before .before .before .if1 .left)) (gathered .0) (loop .inv .1) _ (loop .inv .2) _ _ _ _ _ _ (c .before .before .before .before .before .before .before .before .before .before .before .before .before .before .if2 .taken) (c .before .before .before .before .before .before .before .before .before .before .before .before .before .if3 .left)
-          (c .before .before .before .before .before .before .before .before .before .before .before .read-schedule .ensures) (c .before .before .before .before .before .before .before .before .before .slot .ensures .0) (c .before .before .before .before .before .answer .ensures) ∙ loop .inv .8,
+      omega (arith, loop .inv .6, at-mem .mem .given),
+      omega (arith, loop .inv .7, at-out2 .out2 .given),
+      on .2 ∙ loop .inv .8,
     )
 
 loop-less-2 : tie.Need-loop-less-2 Inv-loop μ-loop
 loop-less-2 c =
-    let loop = c .before .before .before .before .before .before .before .before .loop in
-    let a = c .before .before .before .before .before .before .before .before .before .before .before .before .before .before .before .args in
-    progress _ _ (a .chunk .now) (loop .next) _ _ (c .before .before .before .before .before .before .before .loop-test .taken) (c .before .before .before .gather .ensures .0)
+    let at-loop-test = c .before .before .before .before .before .before .before in
+    let at-loop = at-loop-test .before in
+    let start = at-loop .before .before .before .before .before .before .before in
+    let loop = at-loop .loop in
+    let a = start .args in
+    progress _ _ (a .chunk .now) (loop .next) _ _ (at-loop-test .loop-test .taken) (c .before .before .before .gather .ensures .0)
 
 loop-again-2 : tie.Need-loop-again-2 Inv-loop μ-loop
 loop-again-2 c =
-    let loop = c .before .before .before .before .before .before .before .before .loop in
-    let a = c .before .before .before .before .before .before .before .before .before .before .before .before .before .before .before .args in
+    let at-if1 = c .before .before .before .before .before in
+    let at-is-full = at-if1 .before in
+    let at-loop = at-is-full .before .before in
+    let start = at-loop .before .before .before .before .before .before .before in
+    let loop = at-loop .loop in
+    let a = start .args in
     let gathered = c .before .before .before .gather .ensures in (
       gathered .1 .1,
       loop .inv .1,
@@ -191,7 +247,7 @@ loop-again-2 c =
       omega (arith, gathered .1 .2),
       loop .inv .6,
       loop .inv .7,
-      open-on (loop .board) (loop .count) (loop .held) (loop .cr) (loop .line) (loop .mem) (loop .out) (loop .size) (drop (loop .next) (a .chunk .now)) _ _ _ (room _ _ (c .before .before .before .before .before .before .is-full .ensures) (c .before .before .before .before .before .if1 .left)) (gathered .0) (c .if2 .left) ∙ loop .inv .8,
+      open-on (loop .board) (loop .count) (loop .held) (loop .cr) (loop .line) (loop .mem) (loop .out) (loop .size) (drop (loop .next) (a .chunk .now)) _ _ _ (room _ _ (at-is-full .is-full .ensures) (at-if1 .if1 .left)) (gathered .0) (c .if2 .left) ∙ loop .inv .8,
     )
 
 running-requires-3 : tie.Need-running-requires-3 Inv-loop μ-loop
@@ -208,8 +264,8 @@ same-length-9 c = omega arith
 
 returns-3 : tie.Need-returns-3 Inv-loop μ-loop
 returns-3 c =
-    let loop = c .before .before .loop in
     let start = c .before .before .before .before .before .before .before .before .before in
+    let loop = c .before .before .loop in
     let a = start .args in
     let whole = loop .inv .8 ∙ as-running (a .session) (a .line .now) (a .mem .now) (a .out .now) (a .len) (drop (a .at) (a .chunk .now)) (start .pre .0) in
     let f = feeding (running (loop .board) (loop .count) (loop .held) (loop .cr)) (loop .line) (loop .mem) (loop .out) (loop .size) in (

@@ -20,7 +20,9 @@ slice-reshare-prefix-take-set-up : tie.Need-slice-reshare-prefix-take-set-up
 slice-reshare-prefix-take-set-up c = search needs
 
 slice-aggregate-take-set-up : tie.Need-slice-aggregate-take-set-up
-slice-aggregate-take-set-up c = sym (length-take-le _ _ (omega (arith, c .before .before .before .before .gather .ensures .1)))
+slice-aggregate-take-set-up c =
+    let at-gather = c .before .before .before .before in
+    sym (length-take-le _ _ (omega (arith, at-gather .gather .ensures .1)))
 
 take-set-up-requires : tie.Need-take-set-up-requires
 take-set-up-requires c κs = search needs
@@ -36,13 +38,15 @@ same-length-3 c = search needs
 
 returns : tie.Need-returns
 returns c =
-    let gathered = c .before .before .before .before .before .before .before .before .before .before .before .before in
-    let start = c .before .before .before .before .before .before .before .before .before .before .before .before .before .before .before .before .before .before in
+    let at-take-set-up = c .before .before .before .before .before in
+    let at-if1 = at-take-set-up .before .before .before .before in
+    let gathered = at-if1 .before .before .before in
+    let start = gathered .before .before .before .before .before .before in
     let a = start .args in
-    let tell = c .before .before .before .before .before .take-set-up .ensures in
+    let tell = at-take-set-up .take-set-up .ensures in
     let told = in-stage (a .session) (a .mem .now) (a .out .now) (a .len) Waiting _ _ _ _ _ (start .pre .0) tell in (
       fed-left (a .session) (a .line .now) (a .mem .now) (a .out .now) (a .len) (drop (a .at) (a .chunk .now)) _ _ _ (start .pre .3)
-          (reads-waiting (a .session .stage) (start .pre .0)) (gathered .gather .ensures .0) _ _ _ _ (c .before .before .before .before .before .before .before .before .before .if1 .taken) told
+          (reads-waiting (a .session .stage) (start .pre .0)) (gathered .gather .ensures .0) _ _ _ _ (at-if1 .if1 .taken) told
           (set-up-leaves (a .session) _ (a .mem .now) _ _ (a .out .now) _ (a .len) _ (start .pre .0) tell),
       (
         record {
@@ -60,7 +64,7 @@ same-length-4 c = search needs
 returns-2 : tie.Need-returns-2
 returns-2 c =
     let gathered = c .before .before .before .before in
-    let start = c .before .before .before .before .before .before .before .before .before .before in
+    let start = gathered .before .before .before .before .before .before in
     let a = start .args in
     let found = gathered .gather .result in
     let line = gathered .gather .last .1 .1 .1 .1 .0 in (

@@ -36,12 +36,13 @@ same-length c = omega arith
 
 returns : tie.Need-returns Inv-loop μ-loop
 returns c =
-    let p = c .before .before .before .before .before .before .before .before in
+    let at-is-closing = c .before .before .before .before .before in
+    let p = at-is-closing .before .before .before in
     let s = p .before .before .before .args .chunk .now in
     let h : Held = record { line = p .loop .line; held = p .loop .kept; cr = p .loop .last } in
     let l : p .loop .i < length s = omega arith in
     let k = c .before .before .before .keep-byte .ensures in
-    let closed = closes-by h (getD s (p .loop .i) 0) _ _ (c .before .before .before .before .before .is-closing .ensures) (c .if1 .taken) in (
+    let closed = closes-by h (getD s (p .loop .i) 0) _ _ (at-is-closing .is-closing .ensures) (c .if1 .taken) in (
       ap (λ (x : Held). record { held = x; left = drop (p .loop .i + 1) s; closed = true }) (put-byte h _ _ _ (k .0) (k .1))
           ∙ sym (gather-closed h s (p .loop .i) l closed) ∙ p .loop .inv .4,
       omega arith,
@@ -52,12 +53,13 @@ loop-less c = omega arith
 
 loop-again : tie.Need-loop-again Inv-loop μ-loop
 loop-again c =
-    let p = c .before .before .before .before .before .before .before .before in
+    let at-is-closing = c .before .before .before .before .before in
+    let p = at-is-closing .before .before .before in
     let s = p .before .before .before .args .chunk .now in
     let h : Held = record { line = p .loop .line; held = p .loop .kept; cr = p .loop .last } in
     let l : p .loop .i < length s = omega arith in
     let k = c .before .before .before .keep-byte .ensures in
-    let closed = closes-by h (getD s (p .loop .i) 0) _ _ (c .before .before .before .before .before .is-closing .ensures) (c .if1 .left) in (
+    let closed = closes-by h (getD s (p .loop .i) 0) _ _ (at-is-closing .is-closing .ensures) (c .if1 .left) in (
       omega arith,
       omega arith,
       omega arith,

@@ -22,7 +22,8 @@ stays-requires c κs = search needs
 
 returns-2 : tie.Need-returns-2
 returns-2 c =
-    let a = c .before .before .before .before .args in
+    let start = c .before .before .before .before in
+    let a = start .args in
     ap (λ (m : Moved). (m, a .mem .now)) (c .stays .ensures) ∙ simp (le-ltb _ _ (c .before .if1 .left))
 
 pub steps-spec : {M : Type 1} → statement M

@@ -24,8 +24,10 @@ same-length c = search needs
 
 returns : tie.Need-returns
 returns c =
-    let a = c .before .before .before .before .before .before .before .before .before .args in
-    set-up-ready (a .session) (a .mem .now) (a .out .now) (a .len) (a .s) _ _ (c .before .before .before .before .before .set-up .ensures) (c .before .enum-told .given .1)
+    let at-set-up = c .before .before .before .before .before in
+    let start = at-set-up .before .before .before .before in
+    let a = start .args in
+    set-up-ready (a .session) (a .mem .now) (a .out .now) (a .len) (a .s) _ _ (at-set-up .set-up .ensures) (c .before .enum-told .given .1)
 
 same-length-2 : tie.Need-same-length-2
 same-length-2 c = search needs
@@ -35,9 +37,13 @@ same-length-3 c = search needs
 
 returns-2 : tie.Need-returns-2
 returns-2 c =
-    let a = c .before .before .before .before .before .before .before .before .before .before .before .before .before .before .args in
-    set-up-refuses (a .session) (a .mem .now) (a .out .now) (a .len) (a .s) _ _ _ _ _ _ _ (c .before .before .before .before .before .before .before .before .before .before .set-up .ensures) (c .before .before .before .before .before .before .start .given .1)
-    (c .before .before .before .before .set-up-row .ensures) (c .before .before .end-with .ensures)
+    let at-set-up-row = c .before .before .before .before in
+    let at-start = at-set-up-row .before .before in
+    let at-set-up = at-start .before .before .before .before in
+    let start = at-set-up .before .before .before .before in
+    let a = start .args in
+    set-up-refuses (a .session) (a .mem .now) (a .out .now) (a .len) (a .s) _ _ _ _ _ _ _ (at-set-up .set-up .ensures) (at-start .start .given .1)
+    (at-set-up-row .set-up-row .ensures) (c .before .before .end-with .ensures)
 
 pub set-up-board-spec : {M : Type 1} → statement M
 set-up-board-spec =

@@ -30,18 +30,26 @@ same-length-2 c = search needs
 
 returns : tie.Need-returns
 returns c =
-    let a = c .before .before .before .before .before .before .before .before .before .before .before .before .before .before .args in
-    as-read (a .session) (a .mem .now) (a .out .now) (a .len) (a .bytes .now) _ _ _ _ _ _ (c .before .before .before .before .before .before .before .before .before .before .read-settings .ensures) (c .before .before .before .before .before .before .before .before .read .given .1)
-    (c .before .before .before .before .set-up-board .ensures)
+    let at-set-up-board = c .before .before .before .before in
+    let at-read = at-set-up-board .before .before .before .before in
+    let at-read-settings = at-read .before .before in
+    let start = at-read-settings .before .before .before .before in
+    let a = start .args in
+    as-read (a .session) (a .mem .now) (a .out .now) (a .len) (a .bytes .now) _ _ _ _ _ _ (at-read-settings .read-settings .ensures) (at-read .read .given .1)
+    (at-set-up-board .set-up-board .ensures)
 
 same-length-3 : tie.Need-same-length-3
 same-length-3 c = search needs
 
 returns-2 : tie.Need-returns-2
 returns-2 c =
-    let a = c .before .before .before .before .before .before .before .before .before .before .before .before .args in
-    settings-refused (a .session) (a .mem .now) (a .out .now) (a .len) (a .bytes .now) _ _ _ _ _ _ (c .before .before .before .before .before .before .before .before .read-settings .ensures) (c .before .before .before .before .before .before .read2 .given .1)
-    (c .before .before .before .before .set-up-row .ensures) (c .before .before .end-with .ensures)
+    let at-set-up-row = c .before .before .before .before in
+    let at-read2 = at-set-up-row .before .before in
+    let at-read-settings = at-read2 .before .before in
+    let start = at-read-settings .before .before .before .before in
+    let a = start .args in
+    settings-refused (a .session) (a .mem .now) (a .out .now) (a .len) (a .bytes .now) _ _ _ _ _ _ (at-read-settings .read-settings .ensures) (at-read2 .read2 .given .1)
+    (at-set-up-row .set-up-row .ensures) (c .before .before .end-with .ensures)
 
 pub take-set-up-spec : {M : Type 1} → statement M
 take-set-up-spec =

@@ -31,22 +31,25 @@ add-count c = search needs
 
 answer-requires : tie.Need-answer-requires
 answer-requires c κs =
-    let start = c .before .before .before .before .before .before .before .before .before .before in
-    let k = served (start .args .session .board) (start .args .mem .now) (start .pre .0) (c .before .before .before .before .slot .result) (c .before .before .before .before .slot .ensures .1) in
+    let at-slot = c .before .before .before .before in
+    let start = at-slot .before .before .before .before .before .before in
+    let k = served (start .args .session .board) (start .args .mem .now) (start .pre .0) (at-slot .slot .result) (at-slot .slot .ensures .1) in
     (k .sizes, k .room, k .process, k .clean, start .pre .2)
 
 mul-q : tie.Need-mul-q
 mul-q c =
-    let start = c .before .before .before .before .before .before .before .before .before .before .before .before .before .before .before .before in
+    let at-slot = c .before .before .before .before .before .before .before .before .before .before in
+    let start = at-slot .before .before .before .before .before .before in
     let z = all-sized (start .args .session .board) (start .args .mem .now) (start .pre .0) in
-    let l : c .before .before .before .before .before .before .before .before .before .before .slot .result < 16 = omega (arith, c .before .before .before .before .before .before .before .before .before .before .slot .ensures .1, z .n-most) in
+    let l : at-slot .slot .result < 16 = omega (arith, at-slot .slot .ensures .1, z .n-most) in
     record { fits = omega arith }
 
 element-set-from-q : tie.Need-element-set-from-q
 element-set-from-q c =
-    let start = c .before .before .before .before .before .before .before .before .before .before .before .before .before .before .before .before in
+    let at-slot = c .before .before .before .before .before .before .before .before .before .before in
+    let start = at-slot .before .before .before .before .before .before in
     let z = all-sized (start .args .session .board) (start .args .mem .now) (start .pre .0) in
-    omega (arith, c .before .before .before .before .before .before .before .before .before .before .slot .ensures .1, z .n-most)
+    omega (arith, at-slot .slot .ensures .1, z .n-most)
 
 same-length : tie.Need-same-length
 same-length c = search needs
@@ -56,10 +59,12 @@ same-length-2 c = search needs
 
 returns : tie.Need-returns
 returns c =
-    let start = c .before .before .before .before .before .before .before .before .before .before .before .before .before .before .before .before in
+    let at-answer = c .before .before .before .before .before in
+    let at-slot = at-answer .before .before .before .before .before in
+    let start = at-slot .before .before .before .before .before .before in
     let a = start .args in
     read-tells (a .session) (a .mem .now) (start .pre .0) (a .read .entry) (a .read .values) (a .out .now) (a .len) _ _ _ _ _
-    (c .before .before .before .before .before .before .before .before .before .before .slot .ensures .0) (c .before .before .before .before .before .answer .ensures)
+    (at-slot .slot .ensures .0) (at-answer .answer .ensures)
 
 pub take-read-spec : {M : Type 1} → statement M
 take-read-spec =

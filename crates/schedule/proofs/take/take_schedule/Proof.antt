@@ -8,7 +8,10 @@ read-schedule-requires : tie.Need-read-schedule-requires
 read-schedule-requires c κs = search needs
 
 take-read-requires : tie.Need-take-read-requires
-take-read-requires c κs = (c .before .before .before .before .before .before .before .before .before .before .pre .0, c .before .before .before .before .before .if1 .taken, c .before .before .before .before .before .before .before .before .before .before .pre .1)
+take-read-requires c κs =
+    let at-if1 = c .before .before .before .before .before in
+    let start = at-if1 .before .before .before .before .before in
+    (start .pre .0, at-if1 .if1 .taken, start .pre .1)
 
 same-length : tie.Need-same-length
 same-length c = search needs
@@ -18,9 +21,13 @@ same-length-2 c = search needs
 
 returns : tie.Need-returns
 returns c =
-    let a = c .before .before .before .before .before .before .before .before .before .before .before .before .before .before .before .args in
-    within-records (a .session) (a .mem .now) (a .out .now) (a .len) (a .bytes .now) _ _ _ _ _ (c .before .before .before .before .before .before .before .before .before .before .if1 .taken) (c .before .before .before .before .before .before .before .read-schedule .ensures)
-    (c .before .before .before .before .take-read .ensures)
+    let at-take-read = c .before .before .before .before in
+    let at-read-schedule = at-take-read .before .before .before in
+    let at-if1 = at-read-schedule .before .before .before in
+    let start = at-if1 .before .before .before .before .before in
+    let a = start .args in
+    within-records (a .session) (a .mem .now) (a .out .now) (a .len) (a .bytes .now) _ _ _ _ _ (at-if1 .if1 .taken) (at-read-schedule .read-schedule .ensures)
+    (at-take-read .take-read .ensures)
 
 add-nobodys-row : tie.Need-add-nobodys-row
 add-nobodys-row c = search needs
@@ -36,8 +43,11 @@ same-length-3 c = search needs
 
 returns-2 : tie.Need-returns-2
 returns-2 c =
-    let a = c .before .before .before .before .before .before .before .before .before .before .args in
-    past-records (a .session) (a .mem .now) (a .out .now) (a .len) (a .bytes .now) _ _ _ _ (c .before .before .before .before .before .if1 .left) (c .before .before .before .before .nobodys-row .ensures)
+    let at-nobodys-row = c .before .before .before .before in
+    let at-if1 = at-nobodys-row .before in
+    let start = at-if1 .before .before .before .before .before in
+    let a = start .args in
+    past-records (a .session) (a .mem .now) (a .out .now) (a .len) (a .bytes .now) _ _ _ _ (at-if1 .if1 .left) (at-nobodys-row .nobodys-row .ensures)
     (c .before .before .end-with .ensures)
 
 pub take-schedule-spec : {M : Type 1} → statement M
