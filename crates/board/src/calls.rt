@@ -14,6 +14,7 @@ use rules::Check;
 use rules::Place;
 use rules::Process;
 use rules::Settings;
+use rules::Values;
 use word::Refusal;
 
 fn is_idle(place: Place) -> bool
@@ -58,7 +59,7 @@ fn lacks_sequence(call: Call, opened: u16) -> bool
     }
 }
 
-fn all_blank(values: [u64; 4]) -> bool
+fn all_blank(values: Values) -> bool
     ensures { λ r. ⌜ r ≡ allBlank values ⌝ }
 {
     let mut i = 0;
@@ -79,7 +80,7 @@ fn is_storable(s: Settings, i: usize, value: u64) -> bool
     value_fits(s, value) & ((i < s.w) | (value == 0))
 }
 
-fn storable(s: Settings, values: [u64; 4]) -> bool
+fn storable(s: Settings, values: Values) -> bool
     requires { ⌜ Sized s ⌝ }
     ensures { λ r. ⌜ r ≡ storable s values ⌝ }
 {
@@ -93,7 +94,7 @@ fn storable(s: Settings, values: [u64; 4]) -> bool
     true
 }
 
-fn values_right(s: Settings, call: Call, values: [u64; 4]) -> bool
+fn values_right(s: Settings, call: Call, values: Values) -> bool
     requires { ⌜ Sized s ⌝ }
     ensures { λ r. ⌜ r ≡ valuesRight s call values ⌝ }
 {
@@ -104,7 +105,7 @@ fn values_right(s: Settings, call: Call, values: [u64; 4]) -> bool
     }
 }
 
-pub(crate) fn call_check(s: Settings, p: Process, call: Call, values: [u64; 4]) -> Check
+pub(crate) fn call_check(s: Settings, p: Process, call: Call, values: Values) -> Check
     requires { ⌜ Sized s ⌝ }
     ensures { λ r. ⌜ r ≡ callCheck s p call values ⌝ }
 {

@@ -16,6 +16,7 @@ use rules::Call;
 use rules::Check;
 use rules::Moved;
 use rules::OpenCount;
+use rules::Values;
 use steps::process_step;
 use word::Refusal;
 
@@ -54,7 +55,7 @@ fn put_back(board: Board, me: usize, moved: Moved) -> Answered
 }
 
 // Process me begins a call. The words are read for the checks.
-pub fn begin(board: Board, me: usize, call: Call, values: [u64; 4], mem: &[u64]) -> Answered
+pub fn begin(board: Board, me: usize, call: Call, values: Values, mem: &[u64]) -> Answered
     ensures { λ r. ⌜ r ≡ beginRule board me call values (now (mem .entry)) ⌝ }
 {
     let s = board.settings;

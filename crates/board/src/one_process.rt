@@ -13,10 +13,11 @@ use rules::Check;
 use rules::Moved;
 use rules::Process;
 use rules::Settings;
+use rules::Values;
 use steps::beginning;
 
 // 5 to 8, and the call's beginning. A refused process is left as found.
-pub fn begin_process(s: Settings, p: Process, call: Call, values: [u64; 4]) -> Moved
+pub fn begin_process(s: Settings, p: Process, call: Call, values: Values) -> Moved
     requires { ⌜ Sized s ⌝ }
     ensures { λ r. ⌜ r ≡ beginProcessRule s p call values ⌝ }
 {

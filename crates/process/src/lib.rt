@@ -7,6 +7,7 @@ use rules::Answer;
 use rules::Moved;
 use rules::Place;
 use rules::Process;
+use rules::Values;
 
 pub mod addresses; // addresses.rt: where the shared words of kind `many` lie
 
@@ -117,7 +118,7 @@ pub fn goes_on(place: Place, p: Process) -> Moved
 }
 
 // The last step of a call gives its answer, with its values, and makes its process idle.
-pub fn ends_with(answer: Answer, values: [u64; 4], p: Process) -> Moved
+pub fn ends_with(answer: Answer, values: Values, p: Process) -> Moved
     ensures { λ r. ⌜ r ≡ endsWith answer values p ⌝ }
 {
     let q = at_place(Place::Idle, p);

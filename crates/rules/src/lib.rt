@@ -17,6 +17,9 @@ pub struct Settings {
     pub layout: Layout,
 }
 
+// W values, and 0s from place W on.
+pub type Values = [u64; 4];
+
 // A call of a variable. The values of a store lie beside it.
 pub enum Call {
     Load(usize),
@@ -59,8 +62,8 @@ pub struct Process {
     pub place: Place,
     pub opened: u16,
     pub keep: [u64; 16],
-    pub values: [u64; 4],
-    pub gathered: [u64; 4],
+    pub values: Values,
+    pub gathered: Values,
 }
 
 pub struct Board {
@@ -83,14 +86,14 @@ pub enum Answer {
 pub struct Moved {
     pub process: Process,
     pub answer: Answer,
-    pub values: [u64; 4],
+    pub values: Values,
 }
 
 // A board after a begin or a step, with the answer and its values.
 pub struct Answered {
     pub board: Board,
     pub answer: Answer,
-    pub values: [u64; 4],
+    pub values: Values,
 }
 
 pub enum Start {

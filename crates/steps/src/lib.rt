@@ -30,6 +30,7 @@ use rules::Moved;
 use rules::Place;
 use rules::Process;
 use rules::Settings;
+use rules::Values;
 use word::Refusal;
 
 fn first_place_of_one(call: Call) -> Place
@@ -62,7 +63,7 @@ pub fn first_place(kind: Kind, call: Call) -> Place
 }
 
 // Beginning a call touches no shared word; the values given lie in the process.
-pub fn beginning(s: Settings, call: Call, values: [u64; 4], p: Process) -> Process
+pub fn beginning(s: Settings, call: Call, values: Values, p: Process) -> Process
     ensures { λ r. ⌜ r ≡ beginning s call values p ⌝ }
 {
     let kind = s.kind;
