@@ -59,16 +59,19 @@ module _ (session : Session) (line words out : List ℕ) (len : ℕ) (bytes : Li
         ∙ ap (λ (f : Feeding). goesOn (runOf session words) f left)
         (sym (tells-feeding (recordTold (runOf session words) (bytesOf h)) session after (h .line) words words-after out out-after len next k))
 
+    abbrev either : Bool → Feeding × List ℕ
+    either same =
+        cond same (feedOf (feeding after (h .line) words-after out-after next) left)
+        (feeding after (h .line) words-after out-after next, left)
+
     -- the stage has changed, or not
     pub fed-left : sameStage (runOf session words) (runOf after words-after) ≡ false
         → (feeding after (h .line) words-after out-after next, left) ≡ feedOf (feeding session line words out len) bytes
-    fed-left other =
-        sym (answered-on ∙ ap (λ (t : Bool). cond t (feedOf (feeding after (h .line) words-after out-after next) left) (feeding after (h .line) words-after out-after next, left)) other)
+    fed-left other = sym (answered-on ∙ ap either other)
 
     pub fed-on : sameStage (runOf session words) (runOf after words-after) ≡ true
         → feedOf (feeding after (h .line) words-after out-after next) left ≡ feedOf (feeding session line words out len) bytes
-    fed-on same =
-        sym (answered-on ∙ ap (λ (t : Bool). cond t (feedOf (feeding after (h .line) words-after out-after next) left) (feeding after (h .line) words-after out-after next, left)) same)
+    fed-on same = sym (answered-on ∙ ap either same)
 
 -- stages that differ, and stages that do not
 pub stage-is : (a b : Run) (s t : Stage) → a .stage ≡ s → b .stage ≡ t → sameStage a b ≡ eqb (stageNumber s) (stageNumber t)

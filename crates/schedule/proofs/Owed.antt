@@ -123,16 +123,19 @@ module _ (written : List ℕ) (total : List ℕ → List ℕ) (f : Feeding) (byt
   unfolding recordsFrom isFull next
   gathering-owes = go (closes (f .held) byte) (closes-kept (f .held) (o .part) byte (o .kept))
     where
-      go : (t : Bool) → closed (o .part ++ byte ∷ []) ≡ t → Owes written (cond t (answered next) next) (λ rest. total (byte ∷ rest))
+      more : List ℕ
+      more = o .part ++ byte ∷ []
+
+      rows : List ℕ → Bool → List ℕ
+      rows rest t = written ++ (output f ++ rowsOf (f .run) (cond t (more ∷ recordsFrom [] rest) (recordsFrom more rest)))
+
+      kept : Keeps (put (f .held) byte) more
+      kept = put-kept (f .held) (o .part) byte (o .kept)
+
+      go : (t : Bool) → closed more ≡ t → Owes written (cond t (answered next) next) (λ rest. total (byte ∷ rest))
       go true e =
-          answered-owes written (λ rest. total (byte ∷ rest)) next (o .part ++ byte ∷ []) room (put-kept (f .held) (o .part) byte (o .kept))
-          (λ rest. ap (λ (t : Bool). written ++ (output f ++ rowsOf (f .run) (cond t ((o .part ++ byte ∷ []) ∷ recordsFrom [] rest) (recordsFrom (o .part ++ byte ∷ []) rest)))) (sym e) ∙ o .owed (byte ∷ rest))
-      go false e =
-          record {
-            part = o .part ++ byte ∷ [];
-            kept = put-kept (f .held) (o .part) byte (o .kept);
-            owed = λ rest. ap (λ (t : Bool). written ++ (output f ++ rowsOf (f .run) (cond t ((o .part ++ byte ∷ []) ∷ recordsFrom [] rest) (recordsFrom (o .part ++ byte ∷ []) rest)))) (sym e) ∙ o .owed (byte ∷ rest);
-          }
+          answered-owes written (λ rest. total (byte ∷ rest)) next more room kept (λ rest. ap (rows rest) (sym e) ∙ o .owed (byte ∷ rest))
+      go false e = record { part = more; kept = kept; owed = λ rest. ap (rows rest) (sym e) ∙ o .owed (byte ∷ rest) }
 
   passing-owes : f .run .stage ≡ Over → Owes written f (λ rest. total (byte ∷ rest))
   passing-owes over =
@@ -140,7 +143,8 @@ module _ (written : List ℕ) (total : List ℕ → List ℕ) (f : Feeding) (byt
         part = o .part;
         kept = o .kept;
         owed = λ rest.
-            ap (λ (rows : List ℕ). written ++ (output f ++ rows)) (over-rows (f .run) over (recordsFrom (o .part) rest) ∙ sym (over-rows (f .run) over (recordsFrom (o .part) (byte ∷ rest))))
+            ap (λ (rows : List ℕ). written ++ (output f ++ rows))
+            (over-rows (f .run) over (recordsFrom (o .part) rest) ∙ sym (over-rows (f .run) over (recordsFrom (o .part) (byte ∷ rest))))
             ∙ o .owed (byte ∷ rest);
       }
 

@@ -165,6 +165,10 @@ read-tells session words o entry values out len me q words-after out-after next 
     moved : ℕ → Moved × List ℕ
     moved i = moveOf (session .board .settings) entry values (processAt (session .board) i) words
 
+-- a schedule record in range, by its bytes
+abbrev said : Run → List ℕ → Told
+said run bytes = byEntry run (scheduleOf bytes (run .board .settings .w) .entry) (scheduleOf bytes (run .board .settings .w) .values)
+
 -- a set-up record, by what was read of it
 module _ (session : Session) (words out : List ℕ) (len : ℕ) where
   pub set-up-ready : (s : Settings) (set : SetUp) (words-after : List ℕ) → _≡_ {A = SetUp × List ℕ} (set, words-after) (setUpRule s words)
@@ -210,7 +214,7 @@ module _ (session : Session) (words out : List ℕ) (len : ℕ) where
   within-records bytes read after words-after out-after next few e k =
       subst (λ (t : Told). Tells t out len after words-after out-after next)
       (ap (λ (r : ScheduleRead). byEntry (runOf session words) (r .entry) (r .values)) e
-      ∙ ap (λ (t : Bool). cond t (byEntry (runOf session words) (scheduleOf bytes (session .board .settings .w) .entry) (scheduleOf bytes (session .board .settings .w) .values)) (tooManyTold (runOf session words)))
+      ∙ ap (λ (t : Bool). cond t (said (runOf session words) bytes) (tooManyTold (runOf session words)))
       (sym (lt-ltb (session .count) mostRecords few))) k
 
   pub past-records : (bytes : List ℕ) (row : Row) (after : Session) (out-after : List ℕ) (next : ℕ)
@@ -218,7 +222,7 @@ module _ (session : Session) (words out : List ℕ) (len : ℕ) where
       → Tells (scheduleTold (runOf session words) bytes) out len after words out-after next
   unfolding scheduleTold
   past-records bytes row after out-after next many e k =
-      subst (λ (t : Bool). Tells (cond t (byEntry (runOf session words) (scheduleOf bytes (session .board .settings .w) .entry) (scheduleOf bytes (session .board .settings .w) .values)) (tooManyTold (runOf session words))) out len after words out-after next)
+      subst (λ (t : Bool). Tells (cond t (said (runOf session words) bytes) (tooManyTold (runOf session words))) out len after words out-after next)
       (sym (le-ltb (session .count) mostRecords many))
       (ends-tell row (nobodysRow (mostRecords + 1) TooManyRecords) session after words words out out-after len next e k)
 

@@ -112,7 +112,9 @@ returns-2 c =
     let whole = loop .inv .8 ∙ as-running (a .session) (a .line .now) (a .mem .now) (a .out .now) (a .len) (drop (a .at) (a .chunk .now)) (start .pre .0) in
     let gathered = at-gather .gather .ensures in
     let ended = c .before .before .before .end-with .ensures in (
-      too-many (loop .board) (loop .count) (loop .held) (loop .cr) (loop .line) (loop .mem) (loop .out) (loop .size) (drop (loop .next) (a .chunk .now)) _ _ _ (room _ _ (at-is-full .is-full .ensures) (at-if1 .if1 .left)) (gathered .0) _ _ _ _ _ (at-if2 .if2 .taken) (at-if3 .if3 .taken) (at-nobodys-row .nobodys-row .ensures) (at-running2 .running2 .ensures) ended ∙ whole,
+      too-many (loop .board) (loop .count) (loop .held) (loop .cr) (loop .line) (loop .mem) (loop .out) (loop .size) (drop (loop .next) (a .chunk .now)) _ _ _
+          (room _ _ (at-is-full .is-full .ensures) (at-if1 .if1 .left)) (gathered .0) _ _ _ _ _ (at-if2 .if2 .taken) (at-if3 .if3 .taken)
+          (at-nobodys-row .nobodys-row .ensures) (at-running2 .running2 .ensures) ended ∙ whole,
       (ended-ready _ _ _ _ _ _ _ _ _ ended (gathered .1 .2), gathered .1 .1),
     )
 
@@ -247,7 +249,8 @@ loop-again-2 c =
       omega (arith, gathered .1 .2),
       loop .inv .6,
       loop .inv .7,
-      open-on (loop .board) (loop .count) (loop .held) (loop .cr) (loop .line) (loop .mem) (loop .out) (loop .size) (drop (loop .next) (a .chunk .now)) _ _ _ (room _ _ (at-is-full .is-full .ensures) (at-if1 .if1 .left)) (gathered .0) (c .if2 .left) ∙ loop .inv .8,
+      open-on (loop .board) (loop .count) (loop .held) (loop .cr) (loop .line) (loop .mem) (loop .out) (loop .size) (drop (loop .next) (a .chunk .now)) _ _ _
+          (room _ _ (at-is-full .is-full .ensures) (at-if1 .if1 .left)) (gathered .0) (c .if2 .left) ∙ loop .inv .8,
     )
 
 running-requires-3 : tie.Need-running-requires-3 Inv-loop μ-loop

@@ -68,7 +68,11 @@ returns-2 c =
     let a = start .args in
     let found = gathered .gather .result in
     let line = gathered .gather .last .1 .1 .1 .1 .0 in (
-      ap (λ (s : Stage). (feeding (record { stage = s; board = a .session .board; count = a .session .count; held = found .held; cr = found .cr }) line (a .mem .now) (a .out .now) (a .len), drop (found .next) (a .chunk .now))) (sym (start .pre .0))
+      ap (λ (s : Stage). (
+        feeding (record { stage = s; board = a .session .board; count = a .session .count; held = found .held; cr = found .cr }) line (a .mem .now)
+            (a .out .now) (a .len),
+        drop (found .next) (a .chunk .now),
+      )) (sym (start .pre .0))
           ∙ fed-open (a .session) (a .line .now) (a .mem .now) (a .out .now) (a .len) (drop (a .at) (a .chunk .now)) _ _ _ (start .pre .3)
           (reads-waiting (a .session .stage) (start .pre .0)) (gathered .gather .ensures .0) (c .before .if1 .left),
       (record { order = λ q. still-waits q; held = gathered .gather .ensures .1 .0; long = gathered .gather .ensures .1 .2 }, gathered .gather .ensures .1 .1),
