@@ -1,11 +1,13 @@
 #!/usr/bin/env python3
 """Print docs/EDITS.md: each must-fail edit, what it shows, and the fact at which the prover refuses it.
 
-Run at the repository's root after a gate, which leaves the prover's answers under target/must-fail:
-    docs/src/edits_table.py > docs/EDITS.md
+Run at the repository's root after a gate, which leaves the prover's answers under target/must-fail (FOLDER, if they
+stand elsewhere too):
+    docs/src/edits_table.py [FOLDER ..] > docs/EDITS.md
 """
 import pathlib
 import re
+import sys
 
 FIRST_ERROR = re.compile(r"^\S*?/must-fail/[^/]+/[^/]+/(\S+?):(\d+):\d+: error: `([^`]+)`", re.M)
 NOT_PROVED = re.compile(r"^fn (\S+): (?:not proved|no proof)", re.M)
@@ -26,19 +28,28 @@ def refused_at(log):
     return f"no proof of `{unproved.group(1)}` is found" if unproved else "?"
 
 
+def answer_to(crate, edit):
+    for folder in ["target/must-fail", *sys.argv[1:]]:
+        log = pathlib.Path(folder) / crate / edit.stem / ".log"
+        if log.exists():
+            return refused_at(log)
+    return "not run"
+
+
 def main():
     print("# Must-fail edits\n")
     print("Each is a wrong program or a wrong rule that keeps the shape of the right one; the prover refuses each at a fact.")
-    print("Made by `docs/src/edits_table.py` after a gate.\n")
-    for folder in sorted(pathlib.Path("crates").glob("*/must-fail")):
-        crate = folder.parent.name
+    print("The gate tries those of `must-fail`; `docs/src/more_edits.sh` tries those of `more-edits`.")
+    print("Made by `docs/src/edits_table.py`.\n")
+    for crate in sorted(path.name for path in pathlib.Path("crates").iterdir()):
+        edits = [e for part in ("must-fail", "more-edits") for e in sorted(pathlib.Path("crates", crate, part).glob("*.edit"))]
+        if not edits:
+            continue
         print(f"## `{crate}`\n")
-        print("| Edit | What it shows | Refused at |")
-        print("|---|---|---|")
-        for edit in sorted(folder.glob("*.edit")):
-            log = pathlib.Path("target/must-fail") / crate / edit.stem / ".log"
-            where = refused_at(log) if log.exists() else "not run"
-            print(f"| `{edit.stem}` | {shown(edit)} | {where} |")
+        print("| Edit | In | What it shows | Refused at |")
+        print("|---|---|---|---|")
+        for edit in edits:
+            print(f"| `{edit.stem}` | `{edit.parent.name}` | {shown(edit)} | {answer_to(crate, edit)} |")
         print()
 
 
