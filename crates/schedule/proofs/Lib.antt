@@ -14,3 +14,4 @@ pub mod RunningOn
 pub mod Progress
 pub mod Finishing
 pub mod Callers
+pub mod Takes

@@ -18,7 +18,7 @@ use Rattle.schedule.proofs.Kept.{Keeps, keeps-nothing, told-kept}
 use Rattle.schedule.proofs.Owed.{told-short, output-more, Owes, over-rows, byte-owes}
 
 -- the bytes that were taken, by how many are left
-left-most : (f : Feeding) (bytes : List ℕ) → length (feedOf f bytes .1) ≤ length bytes
+pub left-most : (f : Feeding) (bytes : List ℕ) → length (feedOf f bytes .1) ≤ length bytes
 unfolding feedOf
 left-most f [] = omega arith
 left-most f (byte ∷ bytes) = go (isFull f) (sameStage (f .run) (takeByte f byte .run)) (left-most (takeByte f byte) bytes)

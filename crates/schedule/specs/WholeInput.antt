@@ -2,8 +2,9 @@
 -- printout of all bytes read.
 use Prim.Native.Nat.{ℕ, _-_, _≤_}
 use mathlib.Core.Path.{_≡_}
-use mathlib.Core.Bool.{false}
+use mathlib.Core.Bool.{false, cond}
 use mathlib.Core.List.{List, [], _∷_, _++_}
+use lib.Dec.{ltb}
 use lib.ListN.{length, take}
 use lib.Seq.{sets}
 use Rattle.printout.specs.Row.{heading}
@@ -53,6 +54,25 @@ act c flush =
 unfoldable pub acts : Caller → List Action → Caller
 acts c [] = c
 acts c (action ∷ actions) = acts (act c action) actions
+
+-- a caller of whom nothing is asked but what comes next
+abbrev pub from : Feeding → Caller
+from f = record { feeding = f; read = []; written = [] }
+
+-- the bytes are taken, each once and in their order, with the output written out in between as need be
+pub record Takes (f : Feeding) (bytes : List ℕ) (after : Feeding) : Type 0 where
+  pub actions : List Action
+  pub feeding : acts (from f) actions .feeding ≡ after
+  pub read : acts (from f) actions .read ≡ bytes
+
+-- some bytes are, whichever they are
+pub record TakesSome (f after : Feeding) : Type 0 where
+  pub bytes : List ℕ
+  pub takes : Takes f bytes after
+
+-- the output is written out where there may be no room for another row
+abbrev pub madeRoom : ℕ → ℕ → ℕ
+madeRoom lent len = cond (ltb (lent - len) longestRow) 0 len
 
 -- a line of 513 bytes and an output with room for a row are lent
 pub record Whole : Type 1 where
