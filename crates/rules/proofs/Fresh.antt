@@ -25,8 +25,7 @@ use Rattle.rules.specs.declared.Settings.{Settings}
 use Rattle.rules.proofs.Checked.{stands}
 use Rattle.rules.proofs.Addresses.{header-in, announce-in}
 use Rattle.rules.proofs.Held.{in-form}
-use Rattle.rules.proofs.Keeps.{InForm}
-use Rattle.rules.proofs.Shapes.{Formed, Sound, Clean}
+use Rattle.rules.specs.InForm.{Formed, Sound, Clean, InForm}
 use Rattle.rules.proofs.Sized.{sized}
 use Rattle.rules.proofs.Sounds.{zero-fits, no-values-fit}
 use Rattle.rules.proofs.Tests.{and-both, all-of}

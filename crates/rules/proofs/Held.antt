@@ -8,6 +8,7 @@ use lib.ListN.{getD}
 use borrow.Author.Tests.{ltb-true}
 use Rattle.word.specs.Word.{valueLimit, valueOf}
 use Rattle.rules.specs.GoodForm.{names, valueFits, onePlace, manyPlace, onePlaceOpen, manyPlaceOpen, headerHeld, segmentHeld, valueHeld, placeFits, valuesFit, keptFit, openFits, processFits, wordsFit, wordsFitBy, headersFit, rowsFit}
+use Rattle.rules.specs.InForm.{Clauses}
 use Rattle.rules.specs.Processes.{isOpen}
 use Rattle.rules.specs.Sizes.{bits, isOne, isMany, wordsUsed, usedBy}
 use Rattle.rules.specs.declared.Copy.{Copy}
@@ -81,14 +82,6 @@ module _ (s : Settings) where
   pub held-value : (m v : ℕ) (c : Copy) → valueHeld s m c v ≡ true → v < valueLimit (bits s)
   unfolding valueHeld valueFits
   held-value m v c e = ltb-true _ _ (and-right (segmentHeld s m (c .variable) (c .header) (c .segment)) (valueFits s v) e)
-
--- the clauses of a process's good form, by name
-pub record Clauses (s : Settings) (p : Process) : Type 0 where
-  pub place : placeFits s (p .opened) (p .place) ≡ true
-  pub sequences : openFits s (p .opened) ≡ true
-  pub kept : keptFit s (p .keep) ≡ true
-  pub values : valuesFit s (p .values) ≡ true
-  pub gathered : valuesFit s (p .gathered) ≡ true
 
 module _ (s : Settings) (p : Process) where
   pub clauses : processFits s p ≡ true → Clauses s p

@@ -20,14 +20,9 @@ use Rattle.rules.proofs.FirstPlace.{begins}
 use Rattle.rules.proofs.Branches.{after-set}
 use Rattle.rules.proofs.Held.{clauses, in-form}
 use Rattle.rules.proofs.Kept.{kept}
-use Rattle.rules.proofs.Shapes.{Formed, Shaped, Sound, Clean}
+use Rattle.rules.specs.InForm.{Formed, Shaped, Sound, Clean, InForm}
 use Rattle.rules.proofs.Sized.{sized}
 use Rattle.rules.proofs.Tests.{and-left, and-right, and-both, all-at, all-of}
-
--- a board and its words, in good form and shaped as their types say
-pub record InForm (board : Board) (words : List ℕ) : Type 0 where
-  pub good : inGoodForm board words ≡ true
-  pub shaped : Shaped board words
 
 module _ (board : Board) (words : List ℕ) (good : inGoodForm board words ≡ true) where
   pub words-fit : wordsFit (board .settings) words ≡ true

@@ -29,7 +29,7 @@ use Rattle.rules.proofs.Branches.{branch, both-arms}
 use Rattle.rules.proofs.Closing.{opening-opens}
 use Rattle.rules.proofs.Frame.{saves}
 use Rattle.rules.proofs.Held as held
-use Rattle.rules.proofs.Shapes.{heldHeader, Sound, Clean}
+use Rattle.rules.specs.InForm.{heldHeader, Sound, Clean}
 use Rattle.rules.proofs.Sounds as sounds
 use Rattle.rules.proofs.Tests.{and-left, and-both}
 use Rattle.rules.proofs.Written.{kind-one, kind-many, one-not-many, header-names, announced-fits, header-bounded, write-one, write-many}

@@ -11,7 +11,6 @@ pub mod Counts
 pub mod Places
 pub mod Frame
 pub mod Refusing
-pub mod Shapes
 pub mod Written
 pub mod Sounds
 pub mod Kept

@@ -15,7 +15,8 @@ use Rattle.rules.specs.declared.SetUp.{SetUp}
 use Rattle.rules.specs.declared.Settings.{Settings}
 use Rattle.rules.proofs.Checked.{stands}
 use Rattle.rules.proofs.Fresh.{set-up-accepted, fresh-in-form, fresh-length, fresh-past}
-use Rattle.rules.proofs.Keeps.{InForm, begin-keeps, step-keeps}
+use Rattle.rules.specs.InForm.{InForm}
+use Rattle.rules.proofs.Keeps.{begin-keeps, step-keeps}
 use Rattle.rules.proofs.Leaves.{begin-settings, step-settings, step-length, step-past}
 use Rattle.rules.proofs.Refusing.{begin-refused, step-refused}
 use Rattle.rules.proofs.Sized.{sized}

@@ -24,7 +24,7 @@ use Rattle.rules.specs.declared.Settings.{Settings}
 use Rattle.rules.proofs.Branches.{after-set, both-arms}
 use Rattle.rules.proofs.Closing.{close-in}
 use Rattle.rules.proofs.Masks.{open-in}
-use Rattle.rules.proofs.Shapes.{heldHeader, Sound}
+use Rattle.rules.specs.InForm.{heldHeader, Sound}
 use Rattle.rules.proofs.Tests.{all-at, all-of}
 
 -- a list of values stays in form where one that fits is put in

@@ -24,7 +24,7 @@ pub use Rattle.rules.proofs.Refusing.{blank-check, blank-begin, blank-s
 -- a fresh set-up is in good form, its words used are 0, and those past them are as lent
 pub use Rattle.rules.proofs.Fresh.{set-up-accepted, set-up-in-form, fresh-zero, fresh-past, fresh-length}
 -- every accepted begin and step keeps good form
-pub use Rattle.rules.proofs.Keeps.{InForm, begin-keeps, step-keeps}
+pub use Rattle.rules.proofs.Keeps.{begin-keeps, step-keeps}
 -- good form holds after any events from an accepted set-up
 pub use Rattle.rules.proofs.Runs.{Running, always-in-form}
 -- at each place: a load's first step opens its sequence, a store's answer closes it; a step writes at most the word that

@@ -15,7 +15,7 @@ use Rattle.rules.specs.declared.Settings.{Settings}
 use Rattle.rules.proofs.Addresses.{header-in}
 use Rattle.rules.proofs.Branches.{after-set}
 use Rattle.rules.proofs.Held.{one-kind, many-kind}
-use Rattle.rules.proofs.Shapes.{Bounded, Clean}
+use Rattle.rules.specs.InForm.{Bounded, Clean}
 use Rattle.rules.proofs.Tests.{and-left, and-right, and-both, all-at, all-of}
 
 pub kind-one : (s : Settings) (x : ℕ) → onePlace s x ≡ true → s .kind ≡ One

@@ -5,6 +5,7 @@ pub mod Figure4
 pub mod Figure6
 pub mod Steps
 pub mod GoodForm
+pub mod InForm
 pub mod Refusals
 pub mod Entry
 pub mod Text

@@ -1,11 +1,12 @@
--- What a process and the words are besides good form, as their declared types say it: lists of their lengths, and words of
--- 64 bits where a step needs it. A call's new values are only read, so their length does not matter. Assumes nothing.
+-- What a contract behind the entry points asks of a process, of the words and of a board: good form, clause by clause, and what
+-- the declared types say besides: lists of their lengths, and words of 64 bits where a step needs it. A call's new values are
+-- only read, so their length does not matter.
 use mathlib.Core.Path.{_≡_}
 use mathlib.Core.Bool.{true}
 use mathlib.Core.List.{List}
 use Prim.Native.Nat.{ℕ, _^_, _<_}
 use lib.ListN.{length, getD}
-use Rattle.rules.specs.GoodForm.{wordsFit}
+use Rattle.rules.specs.GoodForm.{placeFits, openFits, keptFit, valuesFit, wordsFit, inGoodForm}
 use Rattle.rules.specs.Processes.{processAt}
 use Rattle.rules.specs.Sizes.{wordsUsed}
 use Rattle.rules.specs.declared.Board.{Board}
@@ -13,7 +14,14 @@ use Rattle.rules.specs.declared.Place.{Place}
 use Rattle.rules.specs.declared.Place.the-variants.{Idle, LoadReadsWord, ValidateReadsWord, StoreSwapsWord, LoadReadsHeader, ValidateReadsHeader, StoreReadsHeader, StoreAnnounces, StoreSwapsHeader, ReadsSegment, ReadsAnnounced, SwapsSegment, ReadsSegmentAgain, ReadsHeader}
 use Rattle.rules.specs.declared.Process.{Process}
 use Rattle.rules.specs.declared.Settings.{Settings}
-use Rattle.rules.proofs.Held.{Clauses}
+
+-- the clauses of a process's good form, by name
+pub record Clauses (s : Settings) (p : Process) : Type 0 where
+  pub place : placeFits s (p .opened) (p .place) ≡ true
+  pub sequences : openFits s (p .opened) ≡ true
+  pub kept : keptFit s (p .keep) ≡ true
+  pub values : valuesFit s (p .values) ≡ true
+  pub gathered : valuesFit s (p .gathered) ≡ true
 
 -- the header that a place holds, or 0
 abbrev pub heldHeader : Place → ℕ
@@ -32,6 +40,7 @@ heldHeader (SwapsSegment c read announced) = c .header
 heldHeader (ReadsSegmentAgain c) = c .header
 heldHeader (ReadsHeader c value) = c .header
 
+-- what a process's declared type says
 pub record Formed (p : Process) : Type 0 where
   pub keep : length (p .keep) ≡ 16
   pub gathered : length (p .gathered) ≡ 4
@@ -41,16 +50,23 @@ pub record Formed (p : Process) : Type 0 where
 abbrev pub Bounded : Settings → List ℕ → Type 0
 Bounded s words = (a : ℕ) → a < wordsUsed s → getD words a 0 < 2 ^ 64
 
+-- what the declared types of a board and its words say
 pub record Shaped (board : Board) (words : List ℕ) : Type 0 where
   pub processes : length (board .processes) ≡ 16
   pub each : (i : ℕ) → i < 16 → Formed (processAt board i)
   pub bounded : Bounded (board .settings) words
 
--- a process in form and shape, and words in form and shape
+-- a process in good form and of its type
 pub record Sound (s : Settings) (p : Process) : Type 0 where
   pub form : Clauses s p
   pub shape : Formed p
 
+-- words in good form and of their type
 pub record Clean (s : Settings) (words : List ℕ) : Type 0 where
   pub fits : wordsFit s words ≡ true
   pub bounded : Bounded s words
+
+-- a board and its words, in good form and of their types
+pub record InForm (board : Board) (words : List ℕ) : Type 0 where
+  pub good : inGoodForm board words ≡ true
+  pub shaped : Shaped board words
