@@ -9,7 +9,7 @@ use lib.ListN.{length, getD, replicate}
 use lib.Seq.{getD-set-other}
 use borrow.Author.Tests.{leb-true, leb-false}
 use Rattle.rules.specs.Entry.{freshProcess, freshBoard, freshWords, setUpBy, setUpRule, refusing, beginBy, beginRule, stepped, stepBy, stepRule}
-use Rattle.rules.specs.Onlooker.{taken, placeOf}
+use Rattle.rules.specs.Onlooker.{placeOf}
 use Rattle.rules.specs.Processes.{isIdle, nobody, noValues, processAt, putProcess}
 use Rattle.rules.specs.Refusals.{sizesCheck, beginCheck, stepCheck}
 use Rattle.rules.specs.Runs.{State, Event, begin, step, fresh, run}

@@ -1,25 +1,14 @@
--- The invariant of one variable, and of one process at one variable; what the others may do to it. Assumes nothing.
+-- Kind `many`: the invariant of one variable, and of one process at it; what the others may do to it. Assumes nothing.
 use mathlib.Core.Path.{_≡_}
 use mathlib.Core.Logic.{_≢_, _⊎_}
 use mathlib.Core.Bool.{Bool, true, false}
-use mathlib.Core.List.{List, [], _∷_}
+use mathlib.Core.List.{_∷_}
 use Prim.Native.Nat.{ℕ, suc, _+_, _≤_, _<_}
 use lib.Dec.{eqb}
 use lib.ListN.{length}
-use Rattle.rules.specs.Demand3.{Another}
-use Rattle.rules.specs.Figure2.{nothing, content, truth}
-use Rattle.rules.specs.Onlooker.{Note, quiet, begins, loads, checks, stores, Seen, see}
-use Rattle.rules.proofs.Demand3.Machine.{Versioned, Told, busy, values, witness, sure, Phase, readsSegment, readsAnnounced, swapsSegment, readsAgain, readsHeader, Aim, load, store, Place, idle, loadReads, validateReads, storeReads, announces, swapsHeader, copies, Sequence, Var}
-
--- p is not among them
-pub data Free (p : ℕ) : List ℕ → Type 0 where
-  free[] : Free p []
-  free∷ : {q : ℕ} {l : List ℕ} → q ≢ p → Free p l → Free p (q ∷ l)
-
--- q stands first, if any does
-pub data Last (q : ℕ) : List ℕ → Type 0 where
-  last[] : Last q []
-  last∷ : {l : List ℕ} → Last q (q ∷ l)
+use Rattle.rules.specs.Figure2.{content, truth}
+use Rattle.rules.proofs.Demand3.Invariant.Since.{Free, Last}
+use Rattle.rules.proofs.Demand3.Machine.{Versioned, Phase, readsSegment, readsAnnounced, swapsSegment, readsAgain, readsHeader, Aim, load, store, Place, idle, loadReads, validateReads, storeReads, announces, swapsHeader, copies, Sequence, Var}
 
 abbrev pub isLoad : Aim → Bool
 isLoad (load g) = true
@@ -180,18 +169,3 @@ pub record Rely (W p : ℕ) (v v′ : Var) : Type 0 where
   pub names : (w : ℕ) → w ≤ v .header .version → v′ .storer w ≡ v .storer w
   pub owes : v′ .seen .due p ≡ v .seen .due p
   pub head : Stays p v v′ ⊎ Moves p v v′
-
--- an answer to p is right, by what was seen of its variable up to the answering step
-abbrev pub Right : ℕ → ℕ → Seen → Told → Type 0
-Right W p o busy = Unit {0}
-Right W p o (values g) = (o .since p ≡ []) × ((d : ℕ → ℕ) × (o .due p ≡ content d) × ((i : ℕ) → i < W → g i ≡ d i))
-Right W p o (witness q) = (m : List ℕ) × (o .since p ≡ q ∷ m)
-Right W p o (sure b) = (o .due p ≡ truth b) × (b ≡ false → Another p (o .since p))
-
--- at the step at which a store of p counts, Figure 2 returned whether it swapped
-abbrev pub Counts : ℕ → Seen → Note → Type 0
-Counts p o quiet = Unit {0}
-Counts p o begins = Unit {0}
-Counts p o loads = Unit {0}
-Counts p o checks = Unit {0}
-Counts p o (stores new swapped) = o .due p ≡ truth swapped

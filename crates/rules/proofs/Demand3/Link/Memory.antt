@@ -15,8 +15,8 @@ use Rattle.rules.specs.declared.Kind.the-variants.{One, Many}
 use Rattle.rules.specs.declared.Settings.{Settings}
 use Rattle.rules.proofs.Addresses.{header-in, segment-in, announce-in, header-header, segment-segment, header-segment, header-announce, segment-announce, announce-announce}
 use Rattle.rules.proofs.Demand3.Change.{change-all}
+use Rattle.rules.proofs.Demand3.Link.Tags.{Means}
 use Rattle.rules.proofs.Demand3.Machine.{Var, Put, none, putsHeader, putsSegment, putsRow, headerAfter, segmentAfter, rowAfter}
-use Rattle.rules.proofs.Demand3.Tags.{Means}
 
 pub record Mem (s : Settings) (vars : ℕ → Var) (rows : ℕ → ℕ → ℕ) (words : List ℕ) : Type 0 where
   pub enough : usedBy Many s ≤ length words

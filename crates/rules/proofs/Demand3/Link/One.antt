@@ -19,13 +19,13 @@ use Rattle.rules.specs.declared.Process.{Process}
 use Rattle.rules.specs.declared.Settings.{Settings}
 use Rattle.rules.proofs.Branches.{branch}
 use Rattle.rules.proofs.Demand3.Change.{never, each}
-use Rattle.rules.proofs.Demand3.Keeping.{Held, held-same, held-shut, held-opened}
-use Rattle.rules.proofs.Demand3.KindOne.{Opened₁, Pair₁}
-use Rattle.rules.proofs.Demand3.Kinds.{past}
-use Rattle.rules.proofs.Demand3.Link.{at-place, StandsOne, one-idle, one-load, one-validate, one-store, says-values, says-yes, says-no, says-sure, Linked}
+use Rattle.rules.proofs.Demand3.Invariant.Begin.{past}
+use Rattle.rules.proofs.Demand3.Invariant.One.{Opened₁, Pair₁}
+use Rattle.rules.proofs.Demand3.Link.Keeping.{Held, held-same, held-shut, held-opened}
+use Rattle.rules.proofs.Demand3.Link.Stands.{at-place, StandsOne, one-idle, one-load, one-validate, one-store, says-values, says-yes, says-no, says-sure, Linked}
+use Rattle.rules.proofs.Demand3.Link.Tags.{next-tag, Means, means-word, word-test}
 use Rattle.rules.proofs.Demand3.Machine.{Versioned, stamp, same, Place as Stand, Sequence, Var, onWordSwap, ruleOne}
-use Rattle.rules.proofs.Demand3.OneStep.{same-true}
-use Rattle.rules.proofs.Demand3.Tags.{next-tag, Means, means-word, word-test}
+use Rattle.rules.proofs.Demand3.Same.{same-true}
 
 module _ (s : Settings) (z : Sized s) (p x : ℕ) (v : Var) (rows : ℕ → ℕ → ℕ) (sequences : ℕ → Sequence) (q : Process) (words : List ℕ)
     (xt : x < s .t) (H : Held One s sequences (q .keep) (q .opened)) (M : Means (bits s) (wordOf x words) (v .header))

@@ -6,14 +6,14 @@ use Prim.Native.Nat.{ℕ, _<_}
 use native.Mathlib.Omega.{arith}
 use lib.Dec.{eqb}
 use borrow.Author.Tests.{eq-eqb, ne-eqb}
-use Rattle.rules.specs.Demand3.{there}
-use Rattle.rules.specs.Figure2.{change, nothing}
-use Rattle.rules.specs.Onlooker.{begins}
+use Rattle.rules.specs.Figure2.{change}
 use Rattle.rules.specs.declared.Kind.{Kind}
 use Rattle.rules.specs.declared.Kind.the-variants.{One, Many}
-use Rattle.rules.proofs.Demand3.Change.{never, change-all, change-both, each}
-use Rattle.rules.proofs.Demand3.Machine.{stamp, Place, idle, Sequence, Var, Out, leaves, anew, acts}
-use Rattle.rules.proofs.Demand3.Kinds.{VarInvK, PairK, FineK, stableK, fineK, idle-row, firstOf, Has, beginK, anew-inv, anew-rely, anew-idle}
+use Rattle.rules.proofs.Demand3.Change.{never, change-all, change-both}
+use Rattle.rules.proofs.Demand3.Invariant.Begin.{idle-row, firstOf, Has, beginK, anew-inv, anew-rely, anew-idle}
+use Rattle.rules.proofs.Demand3.Invariant.Kinds.{VarInvK, PairK, FineK, stableK}
+use Rattle.rules.proofs.Demand3.Invariant.OneStep.EachPlace.{fineK}
+use Rattle.rules.proofs.Demand3.Machine.{stamp, Place, idle, Sequence, Var, Out, anew, acts}
 use Rattle.rules.specs.Onlooker.{unseen}
 use Rattle.rules.specs.declared.Call.{Call}
 

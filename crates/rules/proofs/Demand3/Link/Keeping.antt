@@ -17,8 +17,8 @@ use Rattle.rules.specs.declared.Settings.{Settings}
 use Rattle.rules.proofs.Closing.{closes}
 use Rattle.rules.proofs.Masks.{opens}
 use Rattle.rules.proofs.Demand3.Change.{change-id, change-all}
+use Rattle.rules.proofs.Demand3.Link.Tags.{Means}
 use Rattle.rules.proofs.Demand3.Machine.{stamp, Sequence, shut}
-use Rattle.rules.proofs.Demand3.Tags.{Means}
 
 -- a keep-word: the whole word of kind `one`, the tag of kind `many`
 abbrev pub Keeps : Kind → Settings → ℕ → Sequence → Type 0

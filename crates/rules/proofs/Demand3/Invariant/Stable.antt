@@ -5,9 +5,9 @@ use mathlib.Core.Bool.{true}
 use Prim.Native.Nat.{ℕ, suc, _≤_, _<_}
 use native.Mathlib.Omega.{arith}
 use borrow.Author.Tests.{ne-eqb}
-use Rattle.rules.specs.Figure2.{nothing}
+use Rattle.rules.proofs.Demand3.Invariant.Many.{Storing, VarInv, Opened, PhaseOk, AimOk, Copying, Telling, Doing, Pair, Stays, Moves, Rely}
+use Rattle.rules.proofs.Demand3.Invariant.Since.{free∷, last∷}
 use Rattle.rules.proofs.Demand3.Machine.{Versioned, Phase, readsSegment, readsAnnounced, swapsSegment, readsAgain, readsHeader, Aim, load, store, Place, idle, loadReads, validateReads, storeReads, announces, swapsHeader, copies, Sequence, Var}
-use Rattle.rules.proofs.Demand3.Inv.{free∷, last∷, Storing, VarInv, Opened, PhaseOk, AimOk, Copying, Telling, Doing, Pair, Stays, Moves, Rely}
 
 module _ (W p : ℕ) (v v′ : Var) (I : VarInv W v) (I′ : VarInv W v′) (R : Rely W p v v′) where
   up : v .header .version ≤ v′ .header .version

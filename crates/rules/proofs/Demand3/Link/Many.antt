@@ -16,7 +16,6 @@ use Rattle.rules.specs.GoodForm.{placeFits}
 use Rattle.rules.specs.Processes.{isIdle, keptOf, closing, noValues}
 use Rattle.rules.specs.Sizes.{bits, headerOf, segmentOf, announcedOf}
 use Rattle.rules.specs.Steps.{stepFrom}
-use Rattle.rules.specs.declared.Copy.{Copy}
 use Rattle.rules.specs.declared.Kind.the-variants.{Many}
 use Rattle.rules.specs.declared.Place.{Place}
 use Rattle.rules.specs.declared.Place.the-variants.{StoreReadsHeader, StoreAnnounces, StoreSwapsHeader, ReadsSegment, SwapsSegment, ReadsHeader}
@@ -26,12 +25,12 @@ use Rattle.rules.proofs.Addresses.{number-fits}
 use Rattle.rules.proofs.Branches.{branch}
 use Rattle.rules.proofs.Held as form
 use Rattle.rules.proofs.Demand3.Change.{never, change-all}
-use Rattle.rules.proofs.Demand3.Inv.{VarInv, Opened, Pair}
-use Rattle.rules.proofs.Demand3.Keeping.{Held, held-same, held-shut, held-opened}
-use Rattle.rules.proofs.Demand3.Kinds.{past}
-use Rattle.rules.proofs.Demand3.Link.{at-place, copyAt, Gathered, Stands, at-idle, at-load, at-validate, at-store, at-announce, at-swap, at-segment, at-announced, at-segment-swap, at-again, at-header, says-busy, says-values, says-witness, says-yes, says-no, says-sure, Linked}
+use Rattle.rules.proofs.Demand3.Invariant.Begin.{past}
+use Rattle.rules.proofs.Demand3.Invariant.Many.{VarInv, Opened, Pair}
+use Rattle.rules.proofs.Demand3.Link.Keeping.{Held, held-same, held-shut, held-opened}
+use Rattle.rules.proofs.Demand3.Link.Stands.{at-place, copyAt, Gathered, Stands, at-idle, at-load, at-validate, at-store, at-announce, at-swap, at-segment, at-announced, at-segment-swap, at-again, at-header, says-busy, says-values, says-witness, says-yes, says-no, says-sure, Linked}
+use Rattle.rules.proofs.Demand3.Link.Tags.{tag-test, next-tag, previous-test, Means, means-word, word-test}
 use Rattle.rules.proofs.Demand3.Machine.{Versioned, stamp, same, Aim, load, store, Phase, readsSegment, swapsSegment, readsHeader, Place as Stand, validateReads, storeReads, swapsHeader, copies, Sequence, Var, onRead, onAnnounced, onSwap, onSegment, onSegmentSwap, onHeader, rule}
-use Rattle.rules.proofs.Demand3.Tags.{tag-test, next-tag, previous-test, Means, means-word, word-test}
 
 zeros : (j : ℕ) → _≡_ {A = ℕ} (getD noValues j 0) 0
 zeros zero = refl

@@ -11,7 +11,7 @@ use lib.Pow.{pow-pos}
 use Rattle.word.specs.Word.{word, tagOf, valueOf, nextTag, previousTag, tagLimit, valueLimit}
 use Rattle.word.proofs.Laws.{tag-word, value-word, same-parts}
 use Rattle.rules.proofs.Demand3.Machine.{Versioned, stamp, same}
-use Rattle.rules.proofs.Demand3.OneStep.{same-true, same-false}
+use Rattle.rules.proofs.Demand3.Same.{same-true, same-false}
 
 pub eqb-iff : (a b c d : ℕ) → (a ≡ b → c ≡ d) → (c ≡ d → a ≡ b) → eqb a b ≡ eqb c d
 eqb-iff a b c d f g = by (eqb c d) refl

@@ -1,72 +1,21 @@
--- Both kinds under one name. Assumes nothing.
+-- A begin keeps the invariant, of either kind; and a process past the first step of its load has its sequence open. Assumes nothing.
 use mathlib.Core.Path.{_≡_, refl, sym}
 use mathlib.Core.Logic.{_≢_, inl}
 use mathlib.Core.Bool.{Bool, true, false}
-use Prim.Native.Nat.{ℕ, suc, _≤_, _<_}
+use Prim.Native.Nat.{ℕ, _≤_}
 use native.Mathlib.Omega.{arith}
 use lib.ListN.{length}
 use Rattle.rules.specs.Figure2.{nothing}
-use Rattle.rules.specs.declared.Kind.{Kind}
-use Rattle.rules.specs.declared.Kind.the-variants.{One, Many}
-use Rattle.rules.proofs.Demand3.Change.{never, change-other}
-use Rattle.rules.proofs.Demand3.Machine.{Versioned, values, load, store, Place, idle, loadReads, validateReads, storeReads, announces, swapsHeader, copies, Sequence, Var, Out, anew, acts}
-use Rattle.rules.proofs.Demand3.Inv.{storing, Storing, VarInv, Doing, Pair, Rely, Right, Counts}
-use Rattle.rules.proofs.Demand3.Stable.{stable}
-use Rattle.rules.proofs.Demand3.OneStep.{Fine, step-fine, reseat}
-use Rattle.rules.proofs.Demand3.KindOne.{VarInv₁, Doing₁, Pair₁, Rely₁, Fine₁, stable₁, fine₁}
 use Rattle.rules.specs.declared.Call.{Call}
 use Rattle.rules.specs.declared.Call.the-variants.{Load, Validate, Store}
-
-abbrev pub width : Kind → ℕ → ℕ
-width One W = 1
-width Many W = W
-
-abbrev pub VarInvK : Kind → ℕ → Var → Type 0
-VarInvK One W v = VarInv₁ v
-VarInvK Many W v = VarInv W v
-
-abbrev pub PairK : Kind → ℕ → ℕ → Var → (ℕ → ℕ) → Sequence → Place → Type 0
-PairK One W p v row s pl = Pair₁ p v row s pl
-PairK Many W p v row s pl = Pair W p v row s pl
-
-abbrev pub RelyK : Kind → ℕ → ℕ → Var → Var → Type 0
-RelyK One W p v v′ = Rely₁ p v v′
-RelyK Many W p v v′ = Rely W p v v′
-
-pub record FineK (k : Kind) (W : ℕ) (p : ℕ) (v : Var) (o : Out) : Type 0 where
-  pub inv : VarInvK k W (o .var)
-  pub rely : (r : ℕ) → r ≢ p → RelyK k W r v (o .var)
-  pub pair : PairK k W p (o .var) (o .row) (o .sequence) (o .place)
-  pub right : Right (width k W) p (o .var .seen) (o .told)
-  pub counts : Counts p (o .var .seen) (o .note)
-
-pub stableK : (k : Kind) (W : ℕ) (p : ℕ) (v v′ : Var) → VarInvK k W v → VarInvK k W v′ → RelyK k W p v v′ →
-    (s : Sequence) (row : ℕ → ℕ) (pl : Place) → PairK k W p v row s pl → PairK k W p v′ row s pl
-stableK One W p v v′ I I′ R s row pl P = stable₁ p v v′ s row pl R P
-stableK Many W p v v′ I I′ R s row pl P = stable W p v v′ I I′ R s row pl P
-
--- the header's process is at its store, and has announced
-told-of : (W q : ℕ) (v : Var) (row : ℕ → ℕ) (s : Sequence) (pl : Place) → Pair W q v row s pl → v .header .value ≡ q →
-    (i : ℕ) → i < W → suc (v .segment i .version) ≡ v .header .version → row i ≡ v .stored (v .header .version) i
-told-of W q v row s idle P m i l e = absurd (P .lag i l m e)
-told-of W q v row s loadReads P m i l e = absurd (P .lag i l m e)
-told-of W q v row s validateReads P m i l e = absurd (P .lag i l m e)
-told-of W q v row s (storeReads new) P m i l e = absurd (P .lag i l m e)
-told-of W q v row s (announces new h j) P m i l e = absurd (P .lag i l m e)
-told-of W q v row s (swapsHeader new h) P m i l e = absurd (P .lag i l m e)
-told-of W q v row s (copies (load g) h j ph) P m i l e = absurd (P .lag i l m e)
-told-of W q v row s (copies store h j ph) P m i l e = rw (← (P .lag i l m e)) (P .doing .0 .aim .told i l)
-
-pub fineK : (k : Kind) (W : ℕ) → 0 < W → (p : ℕ) (v : Var) (rows : ℕ → ℕ → ℕ) (ss : ℕ → Sequence) (pls : ℕ → Place) → VarInvK k W v →
-    ((q : ℕ) → PairK k W q v (rows q) (ss q) (pls q)) → FineK k W p v (acts k W p v rows (ss p) (pls p))
-fineK One W pos p v rows ss pls I all =
-    let F : Fine₁ p v (acts One 1 p v rows (ss p) (pls p)) = fine₁ p v rows (ss p) I (pls p) (all p) in
-    record { inv = F .inv; rely = F .rely; pair = F .pair; right = F .right; counts = F .counts }
-fineK Many W pos p v rows ss pls I all =
-    let q : ℕ = v .header .value in
-    let F : Fine W p v (acts Many W p v rows (ss p) (pls p)) = step-fine W p v rows (ss p) I pos
-    (told-of W q v (rows q) (ss q) (pls q) (all q) refl) (pls p) (all p) in
-    record { inv = F .inv; rely = F .rely; pair = F .pair; right = F .right; counts = F .counts }
+use Rattle.rules.specs.declared.Kind.{Kind}
+use Rattle.rules.specs.declared.Kind.the-variants.{One, Many}
+use Rattle.rules.proofs.Demand3.Change.{never}
+use Rattle.rules.proofs.Demand3.Invariant.Kinds.{VarInvK, PairK, RelyK}
+use Rattle.rules.proofs.Demand3.Invariant.Many.{storing, Storing, Doing, Pair}
+use Rattle.rules.proofs.Demand3.Invariant.One.{Doing₁, Pair₁}
+use Rattle.rules.proofs.Demand3.Invariant.OneStep.Leaving.{reseat, owing-inv, owing-rely}
+use Rattle.rules.proofs.Demand3.Machine.{Versioned, Place, idle, loadReads, validateReads, storeReads, announces, swapsHeader, copies, Sequence, Var, anew}
 
 -- an idle process asks nothing of its row
 pub idle-row : (k : Kind) (W : ℕ) (p : ℕ) (v : Var) (row row′ : ℕ → ℕ) (s : Sequence) → PairK k W p v row s idle → PairK k W p v row′ s idle
@@ -145,17 +94,11 @@ fewK Many W p v row s pl I P e = omega (arith, P .seq (openW W p v row s pl (P .
 -- a begin changes only what is due to its process
 pub anew-inv : (k : Kind) (W : ℕ) (p : ℕ) (v : Var) → VarInvK k W v → VarInvK k W (anew p v)
 anew-inv One W p v I = record { now = I .now; sum = I .sum }
-anew-inv Many W p v I = record { lo = I .lo; hi = I .hi; kin = I .kin; who = I .who; now = I .now; sum = I .sum }
+anew-inv Many W p v I = owing-inv W p v nothing I
 
 pub anew-rely : (k : Kind) (W : ℕ) (p : ℕ) (v : Var) (r : ℕ) → r ≢ p → RelyK k W r v (anew p v)
 anew-rely One W p v r n = inl (record { header = refl; since = refl; valid = refl })
-anew-rely Many W p v r n = record {
-  grow = λ i l. omega arith;
-  kept = λ w l. refl;
-  names = λ w l. refl;
-  owes = change-other (v .seen .due) p nothing r n;
-  head = inl (record { header = refl; since = refl; valid = refl });
-}
+anew-rely Many W p v r n = owing-rely W p v nothing r n
 
 pub anew-idle : (k : Kind) (W : ℕ) (p : ℕ) (v : Var) (row : ℕ → ℕ) (s : Sequence) → PairK k W p v row s idle → PairK k W p (anew p v) row s idle
 anew-idle One W p v row s P = record {
