@@ -31,9 +31,9 @@ use Rattle.rules.specs.declared.Place.{Place}
 use Rattle.rules.specs.declared.Place.the-variants.{Idle, LoadReadsWord, ValidateReadsWord, StoreSwapsWord, LoadReadsHeader, ValidateReadsHeader, StoreReadsHeader, StoreAnnounces, StoreSwapsHeader, ReadsSegment, ReadsAnnounced, SwapsSegment, ReadsSegmentAgain, ReadsHeader}
 use Rattle.rules.specs.declared.Process.{Process}
 use Rattle.rules.specs.declared.Settings.{Settings}
-use Rattle.rules.proofs.Held as form
-use Rattle.rules.proofs.Checked.{Accepted, Beginning}
-use Rattle.rules.proofs.Keeps.{process-fits}
+use Rattle.rules.proofs.GoodForm.Held as form
+use Rattle.rules.proofs.Refusals.Checked.{Accepted, Beginning}
+use Rattle.rules.proofs.GoodForm.Keeps.{process-fits}
 use Rattle.rules.proofs.Demand3.Change.{never, change-same, change-id, change-all, change-both}
 use Rattle.rules.proofs.Demand3.Invariant.Begin.{firstOf, Has, past}
 use Rattle.rules.proofs.Demand3.Invariant.Kinds.{Right, Counts, width, VarInvK, PairK, FineK}

@@ -27,11 +27,11 @@ use Rattle.rules.specs.declared.Kind.{Kind}
 use Rattle.rules.specs.declared.Kind.the-variants.{One, Many}
 use Rattle.rules.specs.declared.Process.{Process}
 use Rattle.rules.specs.declared.Settings.{Settings}
-use Rattle.rules.proofs.Held.{clauses}
-use Rattle.rules.proofs.Keeps.{process-fits}
-use Rattle.rules.proofs.Sized.{sized}
+use Rattle.rules.proofs.GoodForm.Held.{clauses}
+use Rattle.rules.proofs.GoodForm.Keeps.{process-fits}
+use Rattle.rules.proofs.Sizes.Sized.{sized}
 use Rattle.rules.proofs.Tests.{and-right}
-use Rattle.rules.proofs.Checked.{Accepted, stands}
+use Rattle.rules.proofs.Refusals.Checked.{Accepted, stands}
 use Rattle.rules.proofs.Demand3.Change.{never, change-all}
 use Rattle.rules.proofs.Demand3.Follow.{ProcessMeans, BoardMeans, place-in, alike, RightAnswer, BeginFollows, begin-follows, StepFollows, step-follows}
 use Rattle.rules.proofs.Demand3.Fresh.{fresh-means}

@@ -14,8 +14,8 @@ use Rattle.rules.specs.Sizes.{bits}
 use Rattle.rules.specs.declared.Kind.{Kind}
 use Rattle.rules.specs.declared.Kind.the-variants.{One, Many}
 use Rattle.rules.specs.declared.Settings.{Settings}
-use Rattle.rules.proofs.Closing.{closes}
-use Rattle.rules.proofs.Masks.{opens}
+use Rattle.rules.proofs.Sequences.Closing.{closes}
+use Rattle.rules.proofs.Sequences.Masks.{opens}
 use Rattle.rules.proofs.Demand3.Change.{change-id, change-all}
 use Rattle.rules.proofs.Demand3.Link.Tags.{Means}
 use Rattle.rules.proofs.Demand3.Machine.{stamp, Sequence, shut}

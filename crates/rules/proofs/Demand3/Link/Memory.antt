@@ -13,7 +13,7 @@ use Rattle.rules.specs.Sizes.{bits, wordAt, headerAt, segmentAt, announc
 use Rattle.rules.specs.declared.Kind.{Kind}
 use Rattle.rules.specs.declared.Kind.the-variants.{One, Many}
 use Rattle.rules.specs.declared.Settings.{Settings}
-use Rattle.rules.proofs.Addresses.{header-in, segment-in, announce-in, header-header, segment-segment, header-segment, header-announce, segment-announce, announce-announce}
+use Rattle.rules.proofs.Sizes.Addresses.{header-in, segment-in, announce-in, header-header, segment-segment, header-segment, header-announce, segment-announce, announce-announce}
 use Rattle.rules.proofs.Demand3.Change.{change-all}
 use Rattle.rules.proofs.Demand3.Link.Tags.{Means}
 use Rattle.rules.proofs.Demand3.Machine.{Var, Put, none, putsHeader, putsSegment, putsRow, headerAfter, segmentAfter, rowAfter}

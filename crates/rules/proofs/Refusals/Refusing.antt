@@ -22,9 +22,9 @@ use Rattle.rules.specs.declared.Settings.{Settings}
 use Rattle.rules.specs.declared.Start.the-variants.{Refused as StartRefused}
 use Rattle.word.specs.declared.Refusal.{Refusal}
 use Rattle.word.specs.declared.Refusal.the-variants.{SettingOutsideSizes}
-use Rattle.rules.proofs.Checked.{step-accepted}
-use Rattle.rules.proofs.Frame.{framed}
-use Rattle.rules.proofs.Places.{isRefusal}
+use Rattle.rules.proofs.Refusals.Checked.{step-accepted}
+use Rattle.rules.proofs.Changes.Frame.{framed}
+use Rattle.rules.proofs.Changes.Places.{isRefusal}
 
 -- a refused set-up gives its number, the blank board and the words as found
 pub set-up-refused : (s : Settings) (words : List ℕ) (r : Refusal) → sizesCheck s (length words) ≡ Refused r

@@ -22,8 +22,8 @@ use Rattle.rules.specs.declared.Place.the-variants.{Idle}
 use Rattle.rules.specs.declared.Process.{Process}
 use Rattle.rules.specs.declared.Settings.{Settings}
 use Rattle.rules.proofs.Branches.{after-set, both-arms}
-use Rattle.rules.proofs.Closing.{close-in}
-use Rattle.rules.proofs.Masks.{open-in}
+use Rattle.rules.proofs.Sequences.Closing.{close-in}
+use Rattle.rules.proofs.Sequences.Masks.{open-in}
 use Rattle.rules.specs.InForm.{heldHeader, Sound}
 use Rattle.rules.proofs.Tests.{all-at, all-of}
 

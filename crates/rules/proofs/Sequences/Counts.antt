@@ -9,7 +9,7 @@ use native.Mathlib.Omega.{arith}
 use lib.Dec.{eqb}
 use Rattle.rules.specs.Processes.{isOpen, openCount, opening, closing}
 use Rattle.rules.specs.declared.Process.{Process}
-use Rattle.rules.proofs.Closing.{opening-opens, opening-no-other, closing-closes, closing-no-other, open-open, close-shut}
+use Rattle.rules.proofs.Sequences.Closing.{opening-opens, opening-no-other, closing-closes, closing-no-other, open-open, close-shut}
 
 -- masks in which the same sequences are open count the same
 pub count-same : (m n t : ℕ) → ((y : ℕ) → y < t → isOpen m y ≡ isOpen n y) → openCount m t ≡ openCount n t

@@ -15,7 +15,7 @@ use Rattle.rules.specs.declared.Call.the-variants.{Load, Validate, Store
 use Rattle.rules.specs.declared.Check.the-variants.{Fine, Refused}
 use Rattle.rules.specs.declared.Kind.the-variants.{One}
 use Rattle.rules.specs.declared.Place.the-variants.{LoadReadsWord, LoadReadsHeader}
-use Rattle.rules.proofs.Computing.{schedule}
+use Rattle.rules.proofs.Cases.Computing.{schedule}
 
 -- one word is lent, and used, by kind one with one variable
 abbrev lent : List ℕ

@@ -22,12 +22,12 @@ use Rattle.rules.specs.declared.Check.the-variants.{Fine}
 use Rattle.rules.specs.declared.Kind.{Kind}
 use Rattle.rules.specs.declared.Kind.the-variants.{One, Many}
 use Rattle.rules.specs.declared.Settings.{Settings}
-use Rattle.rules.proofs.Checked.{stands}
-use Rattle.rules.proofs.Addresses.{header-in, announce-in}
-use Rattle.rules.proofs.Held.{in-form}
+use Rattle.rules.proofs.Refusals.Checked.{stands}
+use Rattle.rules.proofs.Sizes.Addresses.{header-in, announce-in}
+use Rattle.rules.proofs.GoodForm.Held.{in-form}
 use Rattle.rules.specs.InForm.{Formed, Sound, Clean, InForm}
-use Rattle.rules.proofs.Sized.{sized}
-use Rattle.rules.proofs.Sounds.{zero-fits, no-values-fit}
+use Rattle.rules.proofs.Sizes.Sized.{sized}
+use Rattle.rules.proofs.GoodForm.Sounds.{zero-fits, no-values-fit}
 use Rattle.rules.proofs.Tests.{and-both, all-of}
 
 module _ (s : Settings) (z : Sized s) where

@@ -17,9 +17,9 @@ use Rattle.rules.specs.declared.Kind.{Kind}
 use Rattle.rules.specs.declared.Kind.the-variants.{One, Many}
 use Rattle.rules.specs.declared.Process.{Process}
 use Rattle.rules.specs.declared.Settings.{Settings}
-use Rattle.rules.proofs.Checked.{Beginning}
+use Rattle.rules.proofs.Refusals.Checked.{Beginning}
 use Rattle.rules.specs.InForm.{heldHeader, Sound}
-use Rattle.rules.proofs.Sounds.{zero-fits}
+use Rattle.rules.proofs.GoodForm.Sounds.{zero-fits}
 use Rattle.rules.proofs.Tests.{and-left, and-both, all-at, all-of}
 
 module _ (s : Settings) where

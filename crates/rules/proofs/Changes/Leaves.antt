@@ -19,13 +19,13 @@ use Rattle.rules.specs.declared.Check.the-variants.{Fine, Refused}
 use Rattle.rules.specs.declared.Kind.the-variants.{One, Many}
 use Rattle.rules.specs.declared.Place.{Place}
 use Rattle.rules.specs.declared.Process.{Process}
-use Rattle.rules.proofs.Checked.{Accepted, step-accepted}
-use Rattle.rules.proofs.Frame.{framed}
-use Rattle.rules.proofs.Places.{variableAt, openAfter}
-use Rattle.rules.proofs.Held.{at-place}
-use Rattle.rules.proofs.Keeps.{process-fits}
-use Rattle.rules.proofs.Sized.{sized}
-use Rattle.rules.proofs.Reach.{Where, place-writes, writes-used, writes-no-word, writes-no-header, writes-no-segment, writes-no-row}
+use Rattle.rules.proofs.Refusals.Checked.{Accepted, step-accepted}
+use Rattle.rules.proofs.Changes.Frame.{framed}
+use Rattle.rules.proofs.Changes.Places.{variableAt, openAfter}
+use Rattle.rules.proofs.GoodForm.Held.{at-place}
+use Rattle.rules.proofs.GoodForm.Keeps.{process-fits}
+use Rattle.rules.proofs.Sizes.Sized.{sized}
+use Rattle.rules.proofs.Changes.Reach.{Where, place-writes, writes-used, writes-no-word, writes-no-header, writes-no-segment, writes-no-row}
 
 -- neither a begin nor a step changes another process, or the settings
 module _ (board : Board) (me : ℕ) (words : List ℕ) where

@@ -12,9 +12,9 @@ use Rattle.rules.specs.Sizes.{isOne, isMany, headerAt, announceAt, heade
 use Rattle.rules.specs.declared.Kind.{Kind}
 use Rattle.rules.specs.declared.Kind.the-variants.{One, Many}
 use Rattle.rules.specs.declared.Settings.{Settings}
-use Rattle.rules.proofs.Addresses.{header-in}
+use Rattle.rules.proofs.Sizes.Addresses.{header-in}
 use Rattle.rules.proofs.Branches.{after-set}
-use Rattle.rules.proofs.Held.{one-kind, many-kind}
+use Rattle.rules.proofs.GoodForm.Held.{one-kind, many-kind}
 use Rattle.rules.specs.InForm.{Bounded, Clean}
 use Rattle.rules.proofs.Tests.{and-left, and-right, and-both, all-at, all-of}
 

@@ -18,7 +18,7 @@ use Rattle.rules.specs.declared.Kind.the-variants.{One, Many}
 use Rattle.rules.specs.declared.Place.{Place}
 use Rattle.rules.specs.declared.Place.the-variants.{LoadReadsWord, ValidateReadsWord, StoreSwapsWord, LoadReadsHeader, ValidateReadsHeader, StoreReadsHeader, StoreAnnounces, StoreSwapsHeader, ReadsSegment, ReadsAnnounced, SwapsSegment, ReadsSegmentAgain, ReadsHeader}
 use Rattle.rules.specs.declared.Process.{Process}
-use Rattle.rules.proofs.Computing.{schedule}
+use Rattle.rules.proofs.Cases.Computing.{schedule}
 
 -- what the open count's check says of a board with this process, over these words
 abbrev checked : Kind → Process → List ℕ → Check

@@ -23,8 +23,8 @@ use Rattle.rules.specs.declared.Place.the-variants.{Idle, LoadReadsWord,
 use Rattle.rules.specs.declared.Process.{Process}
 use Rattle.rules.specs.declared.Settings.{Settings}
 use Rattle.rules.proofs.Branches.{branch, both-arms}
-use Rattle.rules.proofs.Closing.{opening-opens, opening-no-other, closing-closes, closing-no-other}
-use Rattle.rules.proofs.Places.{variableAt, Writes, isRefusal, isBusy, openAfter}
+use Rattle.rules.proofs.Sequences.Closing.{opening-opens, opening-no-other, closing-closes, closing-no-other}
+use Rattle.rules.proofs.Changes.Places.{variableAt, Writes, isRefusal, isBusy, openAfter}
 
 -- a process p and what a step from place l makes of it
 pub record Own (l : Place) (p : Process) (moved : Moved) : Type 0 where

@@ -15,13 +15,13 @@ use Rattle.rules.specs.declared.Call.{Call}
 use Rattle.rules.specs.declared.Check.{Check}
 use Rattle.rules.specs.declared.Check.the-variants.{Fine}
 use Rattle.rules.specs.declared.Process.{Process}
-use Rattle.rules.proofs.Checked.{step-accepted, begin-accepted}
-use Rattle.rules.proofs.FirstPlace.{begins}
+use Rattle.rules.proofs.Refusals.Checked.{step-accepted, begin-accepted}
+use Rattle.rules.proofs.GoodForm.FirstPlace.{begins}
 use Rattle.rules.proofs.Branches.{after-set}
-use Rattle.rules.proofs.Held.{clauses, in-form}
-use Rattle.rules.proofs.Kept.{kept}
+use Rattle.rules.proofs.GoodForm.Held.{clauses, in-form}
+use Rattle.rules.proofs.GoodForm.Kept.{kept}
 use Rattle.rules.specs.InForm.{Formed, Shaped, Sound, Clean, InForm}
-use Rattle.rules.proofs.Sized.{sized}
+use Rattle.rules.proofs.Sizes.Sized.{sized}
 use Rattle.rules.proofs.Tests.{and-left, and-right, and-both, all-at, all-of}
 
 module _ (board : Board) (words : List ℕ) (good : inGoodForm board words ≡ true) where

@@ -24,15 +24,15 @@ use Rattle.rules.specs.declared.Place.{Place}
 use Rattle.rules.specs.declared.Place.the-variants.{Idle, LoadReadsWord, ValidateReadsWord, StoreSwapsWord, LoadReadsHeader, ValidateReadsHeader, StoreReadsHeader, StoreAnnounces, StoreSwapsHeader, ReadsSegment, ReadsAnnounced, SwapsSegment, ReadsSegmentAgain, ReadsHeader}
 use Rattle.rules.specs.declared.Process.{Process}
 use Rattle.rules.specs.declared.Settings.{Settings}
-use Rattle.rules.proofs.Addresses.{number-fits, header-announce, segment-announce, header-segment}
+use Rattle.rules.proofs.Sizes.Addresses.{number-fits, header-announce, segment-announce, header-segment}
 use Rattle.rules.proofs.Branches.{branch, both-arms}
-use Rattle.rules.proofs.Closing.{opening-opens}
-use Rattle.rules.proofs.Frame.{saves}
-use Rattle.rules.proofs.Held as held
+use Rattle.rules.proofs.Sequences.Closing.{opening-opens}
+use Rattle.rules.proofs.Changes.Frame.{saves}
+use Rattle.rules.proofs.GoodForm.Held as held
 use Rattle.rules.specs.InForm.{heldHeader, Sound, Clean}
-use Rattle.rules.proofs.Sounds as sounds
+use Rattle.rules.proofs.GoodForm.Sounds as sounds
 use Rattle.rules.proofs.Tests.{and-left, and-both}
-use Rattle.rules.proofs.Written.{kind-one, kind-many, one-not-many, header-names, announced-fits, header-bounded, write-one, write-many}
+use Rattle.rules.proofs.GoodForm.Written.{kind-one, kind-many, one-not-many, header-names, announced-fits, header-bounded, write-one, write-many}
 
 pub record Kept (s : Settings) (step : Step) : Type 0 where
   pub process : Sound s (step .0 .process)

@@ -10,7 +10,7 @@ use lib.Dec.{eqb}
 use lib.Pow.{pow-pos}
 use Rattle.rules.specs.Processes.{isOpen, withOpen, withClosed, opening, closing}
 use Rattle.rules.specs.declared.Process.{Process}
-use Rattle.rules.proofs.Masks.{open-le, opens}
+use Rattle.rules.proofs.Sequences.Masks.{open-le, opens}
 
 module _ (n x : ℕ) (e : isOpen n x ≡ true) where
   -- the bit put back gives the mask

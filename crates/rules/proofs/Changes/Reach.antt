@@ -11,10 +11,10 @@ use Rattle.rules.specs.declared.Kind.the-variants.{One, Many}
 use Rattle.rules.specs.declared.Place.{Place}
 use Rattle.rules.specs.declared.Place.the-variants.{Idle, LoadReadsWord, ValidateReadsWord, StoreSwapsWord, LoadReadsHeader, ValidateReadsHeader, StoreReadsHeader, StoreAnnounces, StoreSwapsHeader, ReadsSegment, ReadsAnnounced, SwapsSegment, ReadsSegmentAgain, ReadsHeader}
 use Rattle.rules.specs.declared.Settings.{Settings}
-use Rattle.rules.proofs.Addresses as addresses
-use Rattle.rules.proofs.Places.{variableAt, Writes}
-use Rattle.rules.proofs.Held as held
-use Rattle.rules.proofs.Written.{kind-one, kind-many, one-not-many}
+use Rattle.rules.proofs.Sizes.Addresses as addresses
+use Rattle.rules.proofs.Changes.Places.{variableAt, Writes}
+use Rattle.rules.proofs.GoodForm.Held as held
+use Rattle.rules.proofs.GoodForm.Written.{kind-one, kind-many, one-not-many}
 
 -- the word at address a is one that a step from place l may write
 pub data Where (s : Settings) (me : ℕ) (l : Place) (a : ℕ) : Type 0 where

@@ -13,13 +13,13 @@ use Rattle.rules.specs.declared.Check.{Check}
 use Rattle.rules.specs.declared.Check.the-variants.{Fine, Refused}
 use Rattle.rules.specs.declared.SetUp.{SetUp}
 use Rattle.rules.specs.declared.Settings.{Settings}
-use Rattle.rules.proofs.Checked.{stands}
-use Rattle.rules.proofs.Fresh.{set-up-accepted, fresh-in-form, fresh-length, fresh-past}
+use Rattle.rules.proofs.Refusals.Checked.{stands}
+use Rattle.rules.proofs.GoodForm.Fresh.{set-up-accepted, fresh-in-form, fresh-length, fresh-past}
 use Rattle.rules.specs.InForm.{InForm}
-use Rattle.rules.proofs.Keeps.{begin-keeps, step-keeps}
-use Rattle.rules.proofs.Leaves.{begin-settings, step-settings, step-length, step-past}
-use Rattle.rules.proofs.Refusing.{begin-refused, step-refused}
-use Rattle.rules.proofs.Sized.{sized}
+use Rattle.rules.proofs.GoodForm.Keeps.{begin-keeps, step-keeps}
+use Rattle.rules.proofs.Changes.Leaves.{begin-settings, step-settings, step-length, step-past}
+use Rattle.rules.proofs.Refusals.Refusing.{begin-refused, step-refused}
+use Rattle.rules.proofs.Sizes.Sized.{sized}
 
 -- a state that came from a set-up with these settings and words lent
 pub record Running (s : Settings) (lent : List ℕ) (state : State) : Type 0 where

@@ -9,7 +9,7 @@ use Rattle.rules.specs.Runs.{step, rows}
 use Rattle.rules.specs.Schedules.{settings, ll, sc, row, begun, busy, small}
 use Rattle.rules.specs.declared.Answer.the-variants.{Value, Witness, Yes, No, Refused}
 use Rattle.rules.specs.declared.Kind.the-variants.{One, Many}
-use Rattle.rules.proofs.Computing.{schedule}
+use Rattle.rules.proofs.Cases.Computing.{schedule}
 
 pub record Slips : Type 0 where
   -- P8 with the processes changed over: the header that process 0 was given names 0, the one just read names 1. The
