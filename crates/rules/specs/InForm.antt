@@ -9,11 +9,7 @@ use lib.ListN.{length, getD}
 use Rattle.rules.specs.GoodForm.{placeFits, openFits, keptFit, valuesFit, wordsFit, inGoodForm}
 use Rattle.rules.specs.Processes.{processAt}
 use Rattle.rules.specs.Sizes.{wordsUsed}
-use Rattle.rules.specs.declared.Board.{Board}
-use Rattle.rules.specs.declared.Place.{Place}
-use Rattle.rules.specs.declared.Place.the-variants.{Idle, LoadReadsWord, ValidateReadsWord, StoreSwapsWord, LoadReadsHeader, ValidateReadsHeader, StoreReadsHeader, StoreAnnounces, StoreSwapsHeader, ReadsSegment, ReadsAnnounced, SwapsSegment, ReadsSegmentAgain, ReadsHeader}
-use Rattle.rules.specs.declared.Process.{Process}
-use Rattle.rules.specs.declared.Settings.{Settings}
+use Rattle.rules.specs.Types.{Board, Place, Idle, LoadReadsWord, ValidateReadsWord, StoreSwapsWord, LoadReadsHeader, ValidateReadsHeader, StoreReadsHeader, StoreAnnounces, StoreSwapsHeader, ReadsSegment, ReadsAnnounced, SwapsSegment, ReadsSegmentAgain, ReadsHeader, Process, Settings}
 
 -- the clauses of a process's good form, by name
 pub record Clauses (s : Settings) (p : Process) : Type 0 where

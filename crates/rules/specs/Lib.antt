@@ -1,3 +1,4 @@
+pub mod Types
 pub mod Sizes
 pub mod Bounds
 pub mod Processes
