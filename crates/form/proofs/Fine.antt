@@ -19,7 +19,7 @@ use Rattle.rules.specs.declared.Settings.{Settings}
 use Rattle.word.specs.declared.Refusal.{Refusal}
 use Rattle.word.specs.declared.Refusal.the-variants.{SettingOutsideSizes, MemoryTooShort, NotInGoodForm, NoSuchProcess}
 use Rattle.rules.proofs.Tests.{and-left, all-at}
-use Rattle.rules.proofs.Sized.{sized}
+use Rattle.rules.proofs.Sizes.Sized.{sized}
 
 pub refuse-fine : (test : Bool) (refusal : Refusal) (rest : Check) → refuseIf test refusal rest ≡ Fine → (test ≡ false) × (rest ≡ Fine)
 refuse-fine true refusal rest e = let z : _≡_ {A = ℕ} 0 1 = cc in absurd (omega arith)

@@ -1,6 +1,7 @@
--- What is shown by computation from the rules: P1 to P10; the slips that look right, where those do not show them; the order
--- of the refusals; and each clause of good form.
-pub use Rattle.rules.proofs.Schedules.{hold}
-pub use Rattle.rules.proofs.Slips.{Slips, ruled-out}
-pub use Rattle.rules.proofs.RefusalOrder.{Order, in-order, Values, values-refused}
-pub use Rattle.rules.proofs.FormCases.{Clauses, every-clause}
+-- What is shown by computation from the rules (Computing): P1 to P10 (Schedules); the slips that look right, where those do not
+-- show them (Slips); the order of the refusals (RefusalOrder); and each clause of good form (FormCases).
+pub mod Computing
+pub mod Schedules
+pub mod Slips
+pub mod RefusalOrder
+pub mod FormCases

@@ -8,22 +8,11 @@ pub mod Runs
 pub mod Steps
 -- 2. the rules over versions that never come round, in place of tags: a means of proof
 pub mod Machine
--- 3. its invariant, with no premise: one variable and one process at it (Inv), kept by the others' steps (Stable) and by
---    its own (OneStep, KindOne), of both kinds (Kinds), of the whole machine (Whole)
-pub mod Inv
-pub mod Stable
-pub mod OneStep
-pub mod KindOne
-pub mod Kinds
-pub mod Whole
--- 4. the link: tags within a window of 2^b versions (Tags), the shared words (Memory), keep-words and open sequences
---    (Keeping), and each place's step (Link, LinkOne, LinkMany)
-pub mod Tags
-pub mod Memory
-pub mod Keeping
+pub mod Same
+-- 3. its invariant, with no premise
+pub mod Invariant
+-- 4. the link: within a window of 2^b versions the board does what the machine does
 pub mod Link
-pub mod LinkOne
-pub mod LinkMany
 -- 5. runs: the board stands for the machine, from the fresh one on (Fresh), through every event (Follow), so its answers
 --    are right (Holds); runs that meet the premise, and one that shows it tight (Shown)
 pub mod Follow

@@ -4,8 +4,7 @@ use Prim.Native.Nat.{ℕ}
 use lib.ListN.{take}
 use Rattle.word.specs.Refusals.{number}
 use Rattle.rules.specs.Text.{ascii}
-use Rattle.rules.specs.declared.Answer.{Answer}
-use Rattle.rules.specs.declared.Answer.the-variants.{Begun, Busy, Value, Witness, Yes, No, Refused}
+use Rattle.rules.specs.Types.{Answer, Begun, Busy, Value, Witness, Yes, No, AnswerRefused}
 
 abbrev pub answerWord : Answer → List ℕ
 answerWord Begun = ascii "begun"
@@ -14,13 +13,13 @@ answerWord Value = ascii "value"
 answerWord (Witness process) = ascii "witness"
 answerWord Yes = ascii "yes"
 answerWord No = ascii "no"
-answerWord (Refused refusal) = ascii "refused"
+answerWord (AnswerRefused refusal) = ascii "refused"
 
 -- `value` puts its W values in v0 and on, `witness` and `refused` put their number in v0
 abbrev pub numbersOf : Answer → ℕ → List ℕ → List ℕ
 numbersOf Value w values = take w values
 numbersOf (Witness process) w values = process ∷ []
-numbersOf (Refused refusal) w values = number refusal ∷ []
+numbersOf (AnswerRefused refusal) w values = number refusal ∷ []
 numbersOf Begun w values = []
 numbersOf Busy w values = []
 numbersOf Yes w values = []

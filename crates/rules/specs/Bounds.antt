@@ -1,7 +1,7 @@
 -- What settings that stand give, as bounds, for the functions behind the check.
 use Prim.Native.Nat.{_≤_}
 use Rattle.rules.specs.Sizes.{bits}
-use Rattle.rules.specs.declared.Settings.{Settings}
+use Rattle.rules.specs.Types.{Settings}
 
 pub record Sized (s : Settings) : Type 0 where
   pub n-least : 1 ≤ s .n

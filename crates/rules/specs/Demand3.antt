@@ -12,12 +12,7 @@ use Rattle.rules.specs.OwnSteps.{Own, ownSteps, mostSteps}
 use Rattle.rules.specs.Processes.{isIdle}
 use Rattle.rules.specs.Runs.{State, Event, begin, step, entry, fresh, run}
 use Rattle.rules.specs.Sizes.{bits}
-use Rattle.rules.specs.declared.Answer.{Answer}
-use Rattle.rules.specs.declared.Answer.the-variants.{Value, Witness, Yes, No}
-use Rattle.rules.specs.declared.Place.{Place}
-use Rattle.rules.specs.declared.Place.the-variants.{Idle, LoadReadsWord, ValidateReadsWord, StoreSwapsWord, LoadReadsHeader, ValidateReadsHeader, StoreReadsHeader, StoreAnnounces, StoreSwapsHeader, ReadsSegment, ReadsAnnounced, SwapsSegment, ReadsSegmentAgain, ReadsHeader}
-use Rattle.rules.specs.declared.Settings.{Settings}
-use Rattle.rules.specs.declared.Start.the-variants.{Ready}
+use Rattle.rules.specs.Types.{Answer, Value, Witness, Yes, No, Place, Idle, LoadReadsWord, ValidateReadsWord, StoreSwapsWord, LoadReadsHeader, ValidateReadsHeader, StoreReadsHeader, StoreAnnounces, StoreSwapsHeader, ReadsSegment, ReadsAnnounced, SwapsSegment, ReadsSegmentAgain, ReadsHeader, Settings, Ready}
 
 -- From a fresh set-up of any settings that stand, events in any order, the last of which stands first; then process `me`
 -- takes a step.

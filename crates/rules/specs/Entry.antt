@@ -8,21 +8,7 @@ use Rattle.rules.specs.Processes.{noValues, openCount, processAt, putPro
 use Rattle.rules.specs.Refusals.{sizesCheck, processCheck, beginCheck, stepCheck}
 use Rattle.rules.specs.Sizes.{wordsUsed}
 use Rattle.rules.specs.Steps.{beginning, processStep}
-use Rattle.rules.specs.declared.Answer.the-variants.{Begun, Refused as AnswerRefused}
-use Rattle.rules.specs.declared.Answered.{Answered}
-use Rattle.rules.specs.declared.Board.{Board}
-use Rattle.rules.specs.declared.Call.{Call}
-use Rattle.rules.specs.declared.Check.{Check}
-use Rattle.rules.specs.declared.Check.the-variants.{Fine, Refused}
-use Rattle.rules.specs.declared.Kind.the-variants.{One}
-use Rattle.rules.specs.declared.OpenCount.{OpenCount}
-use Rattle.rules.specs.declared.OpenCount.the-variants.{Open, Refused as CountRefused}
-use Rattle.rules.specs.declared.Place.the-variants.{Idle}
-use Rattle.rules.specs.declared.Process.{Process}
-use Rattle.rules.specs.declared.SetUp.{SetUp}
-use Rattle.rules.specs.declared.Settings.{Settings}
-use Rattle.rules.specs.declared.Start.the-variants.{Ready, Refused as StartRefused}
-use Rattle.word.specs.declared.Refusal.{Refusal}
+use Rattle.rules.specs.Types.{Begun, AnswerRefused, Answered, Board, Call, Check, Fine, Refused, One, OpenCount, Open, CountRefused, Idle, Process, SetUp, Settings, Ready, StartRefused, Refusal}
 
 -- a fresh board has every word and keep-word 0, every process idle and no sequence open
 abbrev pub freshProcess : Process

@@ -7,10 +7,7 @@ use lib.ListN.{getD, set}
 use Rattle.word.specs.Word.{word, tagOf, valueOf, nextTag}
 use Rattle.rules.specs.Sizes.{bits, wordAt, wordOf}
 use Rattle.rules.specs.Processes.{opening, closing, keeping, keptOf, ends, endsWith}
-use Rattle.rules.specs.declared.Answer.the-variants.{Value, Yes, No}
-use Rattle.rules.specs.declared.Moved.{Moved}
-use Rattle.rules.specs.declared.Process.{Process}
-use Rattle.rules.specs.declared.Settings.{Settings}
+use Rattle.rules.specs.Types.{Value, Yes, No, Moved, Process, Settings}
 
 abbrev pub Step : Type 0
 Step = Moved × List ℕ

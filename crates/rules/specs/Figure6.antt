@@ -9,12 +9,7 @@ use Rattle.word.specs.Word.{word, tagOf, valueOf, nextTag, previousTag}
 use Rattle.rules.specs.Figure4.{Step}
 use Rattle.rules.specs.Processes.{opening, closing, keeping, keptOf, gathering, gatheringAnew, goesOn, ends, endsWith}
 use Rattle.rules.specs.Sizes.{bits, headerAt, segmentAt, announceAt, headerOf, segmentOf, announcedOf}
-use Rattle.rules.specs.declared.Answer.the-variants.{Value, Witness, Yes, No}
-use Rattle.rules.specs.declared.Copy.{Copy}
-use Rattle.rules.specs.declared.Moved.{Moved}
-use Rattle.rules.specs.declared.Place.the-variants.{StoreAnnounces, StoreSwapsHeader, ReadsSegment, ReadsAnnounced, SwapsSegment, ReadsSegmentAgain, ReadsHeader}
-use Rattle.rules.specs.declared.Process.{Process}
-use Rattle.rules.specs.declared.Settings.{Settings}
+use Rattle.rules.specs.Types.{Value, Witness, Yes, No, Copy, Moved, StoreAnnounces, StoreSwapsHeader, ReadsSegment, ReadsAnnounced, SwapsSegment, ReadsSegmentAgain, ReadsHeader, Process, Settings}
 
 -- 10, 11, 12: read the header, keep its tag, then Copy with that header, gathering values; the sequence opens
 abbrev pub loadReadsHeader : Settings → Process → ℕ → List ℕ → Step

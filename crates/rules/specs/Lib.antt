@@ -1,3 +1,4 @@
+pub mod Types
 pub mod Sizes
 pub mod Bounds
 pub mod Processes
@@ -5,6 +6,7 @@ pub mod Figure4
 pub mod Figure6
 pub mod Steps
 pub mod GoodForm
+pub mod InForm
 pub mod Refusals
 pub mod Entry
 pub mod Text

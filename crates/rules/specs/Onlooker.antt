@@ -9,11 +9,7 @@ use Rattle.rules.specs.Figure2.{change, Atomic, Returned, nothing, LL, V
 use Rattle.rules.specs.Processes.{processAt}
 use Rattle.rules.specs.Refusals.{variableOf}
 use Rattle.rules.specs.Runs.{State, Event, begin, step, processOf, entry, run}
-use Rattle.rules.specs.declared.Answer.{Answer}
-use Rattle.rules.specs.declared.Answer.the-variants.{Begun, Busy, Value, Witness, Yes, No, Refused}
-use Rattle.rules.specs.declared.Place.{Place}
-use Rattle.rules.specs.declared.Place.the-variants.{Idle, LoadReadsWord, ValidateReadsWord, StoreSwapsWord, LoadReadsHeader, ValidateReadsHeader, StoreReadsHeader, StoreAnnounces, StoreSwapsHeader, ReadsSegment, ReadsAnnounced, SwapsSegment, ReadsSegmentAgain, ReadsHeader}
-use Rattle.rules.specs.declared.Process.{Process}
+use Rattle.rules.specs.Types.{Answer, Begun, Busy, Value, Witness, Yes, No, AnswerRefused, Place, Idle, LoadReadsWord, ValidateReadsWord, StoreSwapsWord, LoadReadsHeader, ValidateReadsHeader, StoreReadsHeader, StoreAnnounces, StoreSwapsHeader, ReadsSegment, ReadsAnnounced, SwapsSegment, ReadsSegmentAgain, ReadsHeader, Process}
 
 -- what was seen of one variable
 pub record Seen : Type 0 where
@@ -82,7 +78,7 @@ isNo Value = false
 isNo (Witness q) = false
 isNo Yes = false
 isNo No = true
-isNo (Refused refusal) = false
+isNo (AnswerRefused refusal) = false
 
 -- the entry point took the event
 abbrev pub taken : Answer → Bool
@@ -92,7 +88,7 @@ taken Value = true
 taken (Witness q) = true
 taken Yes = true
 taken No = true
-taken (Refused refusal) = false
+taken (AnswerRefused refusal) = false
 
 -- the variable of the call
 abbrev pub variableAt : Place → ℕ

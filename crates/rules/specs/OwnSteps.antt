@@ -5,11 +5,7 @@ use Prim.Native.Nat.{ℕ, suc, _+_, _*_}
 use Rattle.rules.specs.Figure2.{change}
 use Rattle.rules.specs.Onlooker.{taken, answerOf}
 use Rattle.rules.specs.Runs.{State, Event, begin, step, processOf, run}
-use Rattle.rules.specs.declared.Call.{Call}
-use Rattle.rules.specs.declared.Call.the-variants.{Load, Validate, Store}
-use Rattle.rules.specs.declared.Kind.{Kind}
-use Rattle.rules.specs.declared.Kind.the-variants.{One, Many}
-use Rattle.rules.specs.declared.Settings.{Settings}
+use Rattle.rules.specs.Types.{Call, Load, Validate, Store, Kind, One, Many, Settings}
 
 -- the call that a process last began, and the steps that it has taken in it
 pub record Own : Type 0 where

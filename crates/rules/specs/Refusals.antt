@@ -7,15 +7,7 @@ use lib.ListN.{length, getD}
 use Rattle.rules.specs.GoodForm.{all, valueFits, inGoodForm}
 use Rattle.rules.specs.Processes.{isIdle, isOpen, processAt}
 use Rattle.rules.specs.Sizes.{settingsFit, wordsUsed}
-use Rattle.rules.specs.declared.Board.{Board}
-use Rattle.rules.specs.declared.Call.{Call}
-use Rattle.rules.specs.declared.Call.the-variants.{Load, Validate, Store}
-use Rattle.rules.specs.declared.Check.{Check}
-use Rattle.rules.specs.declared.Check.the-variants.{Fine, Refused}
-use Rattle.rules.specs.declared.Process.{Process}
-use Rattle.rules.specs.declared.Settings.{Settings}
-use Rattle.word.specs.declared.Refusal.{Refusal}
-use Rattle.word.specs.declared.Refusal.the-variants.{SettingOutsideSizes, MemoryTooShort, NotInGoodForm, NoSuchProcess, NoSuchVariable, CallInProgress, NoOpenSequence, ValueTooGreat, ProcessIdle}
+use Rattle.rules.specs.Types.{Board, Call, Load, Validate, Store, Check, Fine, Refused, Process, Settings, Refusal, SettingOutsideSizes, MemoryTooShort, NotInGoodForm, NoSuchProcess, NoSuchVariable, CallInProgress, NoOpenSequence, ValueTooGreat, ProcessIdle}
 
 abbrev pub refuseIf : Bool → Refusal → Check → Check
 refuseIf test refusal rest = cond test (Refused refusal) rest

@@ -3,12 +3,7 @@ use mathlib.Core.List.{List, [], _∷_}
 use Prim.Native.Nat.{ℕ}
 use Rattle.rules.specs.Answers.{numbersOf}
 use Rattle.rules.specs.Entry.{setUpRule, beginRule, stepRule, openCountRule}
-use Rattle.rules.specs.declared.Answer.{Answer}
-use Rattle.rules.specs.declared.Answered.{Answered}
-use Rattle.rules.specs.declared.Board.{Board}
-use Rattle.rules.specs.declared.Call.{Call}
-use Rattle.rules.specs.declared.OpenCount.{OpenCount}
-use Rattle.rules.specs.declared.Settings.{Settings}
+use Rattle.rules.specs.Types.{Answer, Answered, Board, Call, OpenCount, Settings}
 
 pub record State : Type 0 where
   pub board : Board

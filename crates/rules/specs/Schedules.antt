@@ -5,21 +5,11 @@ use Prim.Native.Nat.{ℕ, zero, suc}
 use lib.ListN.{replicate}
 use Rattle.word.specs.Packing.{packRule}
 use Rattle.word.specs.Word.{nextTag, previousTag}
-use Rattle.word.specs.declared.Packed.{Packed}
 use Rattle.word.specs.declared.Packed.the-variants.{Word}
-use Rattle.word.specs.declared.Refusal.the-variants.{SettingOutsideSizes, NoOpenSequence, ValueTooGreat, ProcessIdle}
 use Rattle.rules.specs.Entry.{setUpRule}
 use Rattle.rules.specs.Processes.{noValues}
 use Rattle.rules.specs.Runs.{State, Event, begin, step, fresh, Row, rows}
-use Rattle.rules.specs.declared.Answer.{Answer}
-use Rattle.rules.specs.declared.Answer.the-variants.{Begun, Busy, Value, Witness, Yes, No, Refused}
-use Rattle.rules.specs.declared.Call.the-variants.{Load, Validate, Store}
-use Rattle.rules.specs.declared.Kind.{Kind}
-use Rattle.rules.specs.declared.Kind.the-variants.{One, Many}
-use Rattle.rules.specs.declared.OpenCount.the-variants.{Open}
-use Rattle.rules.specs.declared.Settings.{Settings}
-use Rattle.rules.specs.declared.Start.{Start}
-use Rattle.rules.specs.declared.Start.the-variants.{Ready, Refused as StartRefused}
+use Rattle.rules.specs.Types.{SettingOutsideSizes, NoOpenSequence, ValueTooGreat, ProcessIdle, Answer, Begun, Busy, Value, Witness, Yes, No, AnswerRefused, Load, Validate, Store, Kind, One, Many, Open, Settings, Start, Ready, StartRefused}
 
 -- N, kind, T, b, W, as in a set-up record; lent are the most words that a board uses
 abbrev pub settings : ℕ → Kind → ℕ → ℕ → ℕ → Settings
@@ -76,9 +66,9 @@ pub record Schedules : Type 0 where
   pub p4 :
       (rows (board 2 One 1 48 1) (ll 0 0 ∷ step 0 ∷ sc 0 0 65535 ∷ []) ≡ begun 0 ∷ row Value 1 (0 ∷ []) ∷ begun 1 ∷ [])
       × (rows (board 2 One 1 48 1) (ll 0 0 ∷ step 0 ∷ sc 0 0 65536 ∷ [])
-      ≡ begun 0 ∷ row Value 1 (0 ∷ []) ∷ row (Refused ValueTooGreat) 1 (8 ∷ []) ∷ [])
+      ≡ begun 0 ∷ row Value 1 (0 ∷ []) ∷ row (AnswerRefused ValueTooGreat) 1 (8 ∷ []) ∷ [])
   pub p5 : rows (board 2 One 1 48 1) (vl 0 0 ∷ step 0 ∷ [])
-      ≡ row (Refused NoOpenSequence) 0 (7 ∷ []) ∷ row (Refused ProcessIdle) 0 (9 ∷ []) ∷ []
+      ≡ row (AnswerRefused NoOpenSequence) 0 (7 ∷ []) ∷ row (AnswerRefused ProcessIdle) 0 (9 ∷ []) ∷ []
   pub p6 :
       (started 2 One 1 3 1 ≡ StartRefused SettingOutsideSizes) × (started 2 One 1 49 1 ≡ StartRefused SettingOutsideSizes)
       × (started 2 One 1 4 1 ≡ Ready) × (started 2 One 1 48 1 ≡ Ready)

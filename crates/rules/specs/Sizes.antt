@@ -6,9 +6,7 @@ use Prim.Native.Nat.{ℕ, _+_, _*_}
 use lib.Dec.{leb, eqb}
 use lib.ListN.{getD}
 use Rattle.word.specs.Word.{bitsFit}
-use Rattle.rules.specs.declared.Kind.{Kind}
-use Rattle.rules.specs.declared.Kind.the-variants.{One, Many}
-use Rattle.rules.specs.declared.Settings.{Settings}
+use Rattle.rules.specs.Types.{Kind, One, Many, Settings}
 
 abbrev pub isOne : Kind → Bool
 isOne One = true

@@ -4,16 +4,7 @@ use Prim.Native.Nat.{ℕ}
 use Rattle.rules.specs.Figure4.{Step, loadReadsWord, validateReadsWord, storeSwapsWord}
 use Rattle.rules.specs.Figure6.{loadReadsHeader, validateReadsHeader, storeReadsHeader, storeAnnounces, storeSwapsHeader, readsSegment, readsAnnounced, swapsSegment, readsSegmentAgain, readsHeader}
 use Rattle.rules.specs.Processes.{ends}
-use Rattle.rules.specs.declared.Answer.the-variants.{Refused}
-use Rattle.rules.specs.declared.Call.{Call}
-use Rattle.rules.specs.declared.Call.the-variants.{Load, Validate, Store}
-use Rattle.rules.specs.declared.Kind.{Kind}
-use Rattle.rules.specs.declared.Kind.the-variants.{One, Many}
-use Rattle.rules.specs.declared.Place.{Place}
-use Rattle.rules.specs.declared.Place.the-variants.{Idle, LoadReadsWord, ValidateReadsWord, StoreSwapsWord, LoadReadsHeader, ValidateReadsHeader, StoreReadsHeader, StoreAnnounces, StoreSwapsHeader, ReadsSegment, ReadsAnnounced, SwapsSegment, ReadsSegmentAgain, ReadsHeader}
-use Rattle.rules.specs.declared.Process.{Process}
-use Rattle.rules.specs.declared.Settings.{Settings}
-use Rattle.word.specs.declared.Refusal.the-variants.{ProcessIdle}
+use Rattle.rules.specs.Types.{AnswerRefused, Call, Load, Validate, Store, Kind, One, Many, Place, Idle, LoadReadsWord, ValidateReadsWord, StoreSwapsWord, LoadReadsHeader, ValidateReadsHeader, StoreReadsHeader, StoreAnnounces, StoreSwapsHeader, ReadsSegment, ReadsAnnounced, SwapsSegment, ReadsSegmentAgain, ReadsHeader, Process, Settings, ProcessIdle}
 
 abbrev pub firstPlace : Kind → Call → Place
 firstPlace One (Load x) = LoadReadsWord x
@@ -30,7 +21,7 @@ beginning s call values p =
 
 -- me is the process's own number; an idle process takes no step
 abbrev pub stepFrom : Place → Settings → Process → ℕ → List ℕ → Step
-stepFrom Idle s p me words = (ends (Refused ProcessIdle) p, words)
+stepFrom Idle s p me words = (ends (AnswerRefused ProcessIdle) p, words)
 stepFrom (LoadReadsWord x) s p me words = loadReadsWord s p x words
 stepFrom (ValidateReadsWord x) s p me words = validateReadsWord s p x words
 stepFrom (StoreSwapsWord x) s p me words = storeSwapsWord s p x words

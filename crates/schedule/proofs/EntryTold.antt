@@ -18,8 +18,8 @@ use Rattle.rules.specs.declared.Board.{Board}
 use Rattle.rules.specs.declared.Moved.{Moved}
 use Rattle.rules.specs.declared.Process.{Process}
 use Rattle.rules.specs.declared.Settings.{Settings}
-use Rattle.rules.proofs.Runs.{begin-in-form, step-in-form}
-use Rattle.rules.proofs.Leaves.{begin-settings, step-settings, step-length}
+use Rattle.rules.proofs.GoodForm.Runs.{begin-in-form, step-in-form}
+use Rattle.rules.proofs.Changes.Leaves.{begin-settings, step-settings, step-length}
 use Rattle.record.specs.declared.Act.{Act}
 use Rattle.record.specs.declared.schedule.Entry.{Entry}
 use Rattle.record.specs.declared.schedule.Entry.the-variants.{Begin, Step, Refused}

@@ -23,8 +23,8 @@ use Rattle.rules.specs.declared.Place.the-variants.{Idle, LoadReadsWord, Valida
 use Rattle.rules.specs.declared.Process.{Process}
 use Rattle.rules.specs.declared.Settings.{Settings}
 use Rattle.rules.specs.Bounds.{Sized}
-use Rattle.rules.proofs.Checked.{Stands, stands-fine, accepted-fine}
-use Rattle.rules.proofs.Sized.{sized}
+use Rattle.rules.proofs.Refusals.Checked.{Stands, stands-fine, accepted-fine}
+use Rattle.rules.proofs.Sizes.Sized.{sized}
 use Rattle.board.specs.OneProcess.{beginProcessBy, beginProcessRule}
 use Rattle.schedule.specs.Moves as moves
 use Rattle.schedule.specs.Order.{InOrder}

@@ -14,8 +14,8 @@ use Rattle.rules.specs.declared.Check.{Check}
 use Rattle.rules.specs.declared.Check.the-variants.{Fine, Refused as CheckRefused}
 use Rattle.rules.specs.declared.Process.{Process}
 use Rattle.rules.specs.declared.Settings.{Settings}
-use Rattle.rules.proofs.Kept.{kept}
-use Rattle.rules.proofs.Shapes.{Sound, Clean}
+use Rattle.rules.proofs.GoodForm.Kept.{kept}
+use Rattle.rules.specs.InForm.{Sound, Clean}
 use Rattle.board.specs.OneProcess.{beginProcessBy, beginProcessRule}
 use Rattle.record.specs.declared.schedule.Entry.{Entry}
 use Rattle.record.specs.declared.schedule.Entry.the-variants.{Begin, Step, Refused}

@@ -12,8 +12,8 @@ use Rattle.rules.specs.Sizes.{wordsUsed}
 use Rattle.rules.specs.declared.Board.{Board}
 use Rattle.rules.specs.declared.Process.{Process}
 use Rattle.rules.specs.declared.Settings.{Settings}
-use Rattle.rules.proofs.Keeps.{sound-process, clean-words}
-use Rattle.rules.proofs.Shapes.{Sound, Clean}
+use Rattle.rules.proofs.GoodForm.Keeps.{sound-process, clean-words}
+use Rattle.rules.specs.InForm.{Sound, Clean}
 use Rattle.record.specs.Schedule.{scheduleOf}
 use Rattle.record.specs.declared.schedule.ScheduleRead.{ScheduleRead}
 use Rattle.printout.specs.Writing.{longestRow}

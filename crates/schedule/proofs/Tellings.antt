@@ -21,10 +21,10 @@ use Rattle.rules.specs.declared.Start.the-variants.{Ready as Accepted, Refused 
 use Rattle.rules.specs.Processes.{processAt, putProcess}
 use Rattle.rules.specs.declared.Moved.{Moved}
 use Rattle.rules.specs.declared.Process.{Process}
-use Rattle.rules.proofs.Checked.{stands}
-use Rattle.rules.proofs.Fresh.{set-up-accepted, fresh-in-form, fresh-length}
-use Rattle.rules.proofs.Refusing.{set-up-refused}
-use Rattle.rules.proofs.Sized.{sized}
+use Rattle.rules.proofs.Refusals.Checked.{stands}
+use Rattle.rules.proofs.GoodForm.Fresh.{set-up-accepted, fresh-in-form, fresh-length}
+use Rattle.rules.proofs.Refusals.Refusing.{set-up-refused}
+use Rattle.rules.proofs.Sizes.Sized.{sized}
 use Rattle.record.specs.Schedule.{scheduleOf}
 use Rattle.record.specs.Setup.{settingsOf}
 use Rattle.record.specs.declared.schedule.Entry.{Entry}

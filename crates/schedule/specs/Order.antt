@@ -6,7 +6,7 @@ use mathlib.Core.List.{List}
 use lib.ListN.{length}
 use Rattle.rules.specs.Sizes.{settingsFit, wordsUsed}
 use Rattle.rules.specs.declared.Board.{Board}
-use Rattle.rules.proofs.Keeps.{InForm}
+use Rattle.rules.specs.InForm.{InForm}
 use Rattle.schedule.specs.Gathering.{lineLength}
 use Rattle.schedule.specs.declared.Session.{Session}
 use Rattle.schedule.specs.declared.Stage.{Stage}

@@ -3,7 +3,7 @@ ghost use Prim.Native.Nat.{_-_, _≤_};
 ghost use lib.ListN.{length};
 ghost use Rattle.rules.specs.Bounds.{Sized};
 ghost use Rattle.rules.specs.Sizes.{wordsUsed};
-ghost use Rattle.rules.proofs.Shapes.{Sound, Clean};
+ghost use Rattle.rules.specs.InForm.{Sound, Clean};
 ghost use Rattle.printout.specs.Writing.{longestRow};
 ghost use Rattle.schedule.specs.Answering.{Answers};
 use crate::moves::moves;

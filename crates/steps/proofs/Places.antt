@@ -17,7 +17,7 @@ use Rattle.rules.specs.declared.Place.{Place}
 use Rattle.rules.specs.declared.Place.the-variants.{LoadReadsWord, ValidateReadsWord, StoreSwapsWord, LoadReadsHeader, ValidateReadsHeader, StoreReadsHeader, StoreAnnounces, StoreSwapsHeader, ReadsSegment, ReadsAnnounced, SwapsSegment, ReadsSegmentAgain, ReadsHeader}
 use Rattle.rules.specs.declared.Process.{Process}
 use Rattle.rules.specs.declared.Settings.{Settings}
-use Rattle.rules.proofs.Held as held
+use Rattle.rules.proofs.GoodForm.Held as held
 
 -- what the places of kind `one`, of kind `many`, and of Copy require
 abbrev pub InOne : Settings → ℕ → ℕ → Type 0

@@ -2,7 +2,6 @@
 use mathlib.Core.Path.{_≡_, refl}
 use Rattle.word.specs.Word.{word, tagOf, valueOf, nextTag, previousTag}
 use Rattle.word.specs.Packing.{packRule, unpackRule}
-use Rattle.word.specs.declared.Packed.{Packed}
 use Rattle.word.specs.declared.Packed.the-variants.{Word, Refused as NotPacked}
 use Rattle.word.specs.declared.Unpacked.the-variants.{Parts, Refused as NotUnpacked}
 use Rattle.word.specs.declared.Refusal.the-variants.{SettingOutsideSizes, ValueTooGreat}

@@ -68,10 +68,6 @@ pub next-lt : (b t : ℕ) → nextTag b t < tagLimit b
 unfolding nextTag
 next-lt b t = mod-lt (t + 1) (pow-pos b)
 
-pub previous-lt : (b t : ℕ) → previousTag b t < tagLimit b
-unfolding previousTag
-previous-lt b t = mod-lt (t + (tagLimit b - 1)) (pow-pos b)
-
 -- next and previous undo each other
 pub previous-next : (b : ℕ) {t : ℕ} → t < tagLimit b → previousTag b (nextTag b t) ≡ t
 unfolding nextTag previousTag

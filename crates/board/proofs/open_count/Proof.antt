@@ -1,5 +1,5 @@
 use Rattle.rules.specs.Processes.{processAt}
-use Rattle.rules.proofs.Held as held
+use Rattle.rules.proofs.GoodForm.Held as held
 use native.Mathlib.Omega.{arith}
 use Rattle.form.proofs.Fine as fine
 use Rattle.rules.specs.Entry as entry

@@ -1,4 +1,4 @@
-use Rattle.rules.proofs.Masks.{bit, open-le}
+use Rattle.rules.proofs.Sequences.Masks.{bit, open-le}
 use Rattle.rules.specs.Processes.{withClosed}
 use mathlib.Core.Path.{sym, _∙_}
 use borrow.Author.Needs.{needs}

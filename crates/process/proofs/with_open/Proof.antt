@@ -1,4 +1,4 @@
-use Rattle.rules.proofs.Masks.{bit, open-in}
+use Rattle.rules.proofs.Sequences.Masks.{bit, open-in}
 use Rattle.rules.specs.Processes.{withOpen}
 use mathlib.Core.Path.{sym, _∙_}
 use borrow.Author.Needs.{needs}

@@ -31,21 +31,21 @@ use Rattle.rules.specs.declared.Place.{Place}
 use Rattle.rules.specs.declared.Place.the-variants.{Idle, LoadReadsWord, ValidateReadsWord, StoreSwapsWord, LoadReadsHeader, ValidateReadsHeader, StoreReadsHeader, StoreAnnounces, StoreSwapsHeader, ReadsSegment, ReadsAnnounced, SwapsSegment, ReadsSegmentAgain, ReadsHeader}
 use Rattle.rules.specs.declared.Process.{Process}
 use Rattle.rules.specs.declared.Settings.{Settings}
-use Rattle.rules.proofs.Held as form
-use Rattle.rules.proofs.Checked.{Accepted, Beginning}
-use Rattle.rules.proofs.Keeps.{process-fits}
+use Rattle.rules.proofs.GoodForm.Held as form
+use Rattle.rules.proofs.Refusals.Checked.{Accepted, Beginning}
+use Rattle.rules.proofs.GoodForm.Keeps.{process-fits}
 use Rattle.rules.proofs.Demand3.Change.{never, change-same, change-id, change-all, change-both}
-use Rattle.rules.proofs.Demand3.Inv.{Right, Counts}
-use Rattle.rules.proofs.Demand3.Keeping.{Held}
-use Rattle.rules.proofs.Demand3.Kinds.{width, VarInvK, PairK, FineK, firstOf, Has, past}
-use Rattle.rules.proofs.Demand3.Link.{at-place, StandsOne, one-idle, one-load, one-validate, one-store, Stands, at-idle, at-load, at-validate, at-store, at-announce, at-swap, at-segment, at-announced, at-segment-swap, at-again, at-header, StandsK, Says, says-busy, says-values, says-witness, says-yes, says-no, Linked}
-use Rattle.rules.proofs.Demand3.LinkMany.{link-many}
-use Rattle.rules.proofs.Demand3.LinkOne.{link-one}
+use Rattle.rules.proofs.Demand3.Invariant.Begin.{firstOf, Has, past}
+use Rattle.rules.proofs.Demand3.Invariant.Kinds.{Right, Counts, width, VarInvK, PairK, FineK}
+use Rattle.rules.proofs.Demand3.Invariant.Whole.{Proc, State, Inv, outAt, apply, begun, fine, stepped as machine-stepped, begin-kept}
+use Rattle.rules.proofs.Demand3.Link.Keeping.{Held}
+use Rattle.rules.proofs.Demand3.Link.Many.{link-many}
+use Rattle.rules.proofs.Demand3.Link.Memory.{MemK, WroteK, put-kind}
+use Rattle.rules.proofs.Demand3.Link.One.{link-one}
+use Rattle.rules.proofs.Demand3.Link.Stands.{at-place, StandsOne, one-idle, one-load, one-validate, one-store, Stands, at-idle, at-load, at-validate, at-store, at-announce, at-swap, at-segment, at-announced, at-segment-swap, at-again, at-header, StandsK, Says, says-busy, says-values, says-witness, says-yes, says-no, Linked}
 use Rattle.rules.proofs.Demand3.Machine.{Told, Place as Stand, idle, Sequence, Var, none, Core, Out, anew, rules}
-use Rattle.rules.proofs.Demand3.Memory.{MemK, WroteK, put-kind}
 use Rattle.rules.proofs.Demand3.Runs as runs
 use Rattle.rules.proofs.Demand3.Steps.{nearer}
-use Rattle.rules.proofs.Demand3.Whole.{Proc, State, Inv, outAt, apply, begun, fine, stepped as machine-stepped, begin-kept}
 
 -- a process of the board stands for one of the machine
 pub record ProcessMeans (k : Kind) (s : Settings) (r : Proc) (q : Process) : Type 0 where

@@ -17,14 +17,14 @@ use Rattle.rules.specs.declared.Kind.{Kind}
 use Rattle.rules.specs.declared.Kind.the-variants.{One, Many}
 use Rattle.rules.specs.declared.Place.the-variants.{Idle}
 use Rattle.rules.specs.declared.Settings.{Settings}
-use Rattle.rules.proofs.Addresses.{header-in, segment-in, announce-in}
+use Rattle.rules.proofs.Sizes.Addresses.{header-in, segment-in, announce-in}
 use Rattle.rules.proofs.Demand3.Follow.{BoardMeans}
-use Rattle.rules.proofs.Demand3.Keeping.{Keeps}
-use Rattle.rules.proofs.Demand3.Link.{StandsK, one-idle, at-idle}
+use Rattle.rules.proofs.Demand3.Invariant.Whole.{freshState}
+use Rattle.rules.proofs.Demand3.Link.Keeping.{Keeps}
+use Rattle.rules.proofs.Demand3.Link.Memory.{MemK}
+use Rattle.rules.proofs.Demand3.Link.Stands.{StandsK, one-idle, at-idle}
+use Rattle.rules.proofs.Demand3.Link.Tags.{Means}
 use Rattle.rules.proofs.Demand3.Machine.{stamp, idle}
-use Rattle.rules.proofs.Demand3.Memory.{MemK}
-use Rattle.rules.proofs.Demand3.Tags.{Means}
-use Rattle.rules.proofs.Demand3.Whole.{freshState}
 
 zero-means : (b : ℕ) → Means b 0 (stamp 0 0)
 unfolding tagOf valueOf

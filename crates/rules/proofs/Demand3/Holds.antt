@@ -27,20 +27,20 @@ use Rattle.rules.specs.declared.Kind.{Kind}
 use Rattle.rules.specs.declared.Kind.the-variants.{One, Many}
 use Rattle.rules.specs.declared.Process.{Process}
 use Rattle.rules.specs.declared.Settings.{Settings}
-use Rattle.rules.proofs.Held.{clauses}
-use Rattle.rules.proofs.Keeps.{process-fits}
-use Rattle.rules.proofs.Sized.{sized}
+use Rattle.rules.proofs.GoodForm.Held.{clauses}
+use Rattle.rules.proofs.GoodForm.Keeps.{process-fits}
+use Rattle.rules.proofs.Sizes.Sized.{sized}
 use Rattle.rules.proofs.Tests.{and-right}
-use Rattle.rules.proofs.Checked.{Accepted, stands}
+use Rattle.rules.proofs.Refusals.Checked.{Accepted, stands}
 use Rattle.rules.proofs.Demand3.Change.{never, change-all}
 use Rattle.rules.proofs.Demand3.Follow.{ProcessMeans, BoardMeans, place-in, alike, RightAnswer, BeginFollows, begin-follows, StepFollows, step-follows}
 use Rattle.rules.proofs.Demand3.Fresh.{fresh-means}
-use Rattle.rules.proofs.Demand3.Inv.{Counts}
-use Rattle.rules.proofs.Demand3.Kinds.{width, fewK}
-use Rattle.rules.proofs.Demand3.Link.{at-place}
+use Rattle.rules.proofs.Demand3.Invariant.Begin.{fewK}
+use Rattle.rules.proofs.Demand3.Invariant.Kinds.{Counts, width}
+use Rattle.rules.proofs.Demand3.Invariant.Whole.{State as Machine, Inv, freshState, fresh-inv}
+use Rattle.rules.proofs.Demand3.Link.Stands.{at-place}
 use Rattle.rules.proofs.Demand3.Runs.{begin-cases, step-cases, ready-fine, Shaped, fresh-is, run-shaped}
 use Rattle.rules.proofs.Demand3.Steps.{bounded}
-use Rattle.rules.proofs.Demand3.Whole.{State as Machine, Inv, freshState, fresh-inv}
 
 -- the board of a run stands for a state of the machine that its invariant holds of
 record Stood (s : Settings) (state : State) (seen : ℕ → Seen) : Type 0 where

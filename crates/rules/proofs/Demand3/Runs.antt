@@ -9,7 +9,7 @@ use lib.ListN.{length, getD, replicate}
 use lib.Seq.{getD-set-other}
 use borrow.Author.Tests.{leb-true, leb-false}
 use Rattle.rules.specs.Entry.{freshProcess, freshBoard, freshWords, setUpBy, setUpRule, refusing, beginBy, beginRule, stepped, stepBy, stepRule}
-use Rattle.rules.specs.Onlooker.{taken, placeOf}
+use Rattle.rules.specs.Onlooker.{placeOf}
 use Rattle.rules.specs.Processes.{isIdle, nobody, noValues, processAt, putProcess}
 use Rattle.rules.specs.Refusals.{sizesCheck, beginCheck, stepCheck}
 use Rattle.rules.specs.Runs.{State, Event, begin, step, fresh, run}
@@ -26,9 +26,9 @@ use Rattle.rules.specs.declared.SetUp.{SetUp}
 use Rattle.rules.specs.declared.Settings.{Settings}
 use Rattle.rules.specs.declared.Start.the-variants.{Ready}
 use Rattle.word.specs.declared.Refusal.{Refusal}
-use Rattle.rules.proofs.Checked.{stands, Accepted, Beginning, step-accepted, step-fine, begin-accepted}
-use Rattle.rules.proofs.Fresh.{set-up-accepted}
-use Rattle.rules.proofs.Runs.{always-in-form}
+use Rattle.rules.proofs.Refusals.Checked.{stands, Accepted, Beginning, step-accepted, step-fine, begin-accepted}
+use Rattle.rules.proofs.GoodForm.Fresh.{set-up-accepted}
+use Rattle.rules.proofs.GoodForm.Runs.{always-in-form}
 use Rattle.rules.proofs.Demand3.Change.{never}
 
 -- what holds of a step that is taken, and of every refusal, holds of every step

@@ -38,11 +38,11 @@ use Rattle.rules.specs.declared.Place.{Place}
 use Rattle.rules.specs.declared.Place.the-variants.{Idle, LoadReadsWord, ValidateReadsWord, StoreSwapsWord, LoadReadsHeader, ValidateReadsHeader, StoreReadsHeader, StoreAnnounces, StoreSwapsHeader, ReadsSegment, ReadsAnnounced, SwapsSegment, ReadsSegmentAgain, ReadsHeader}
 use Rattle.rules.specs.declared.Process.{Process}
 use Rattle.rules.specs.declared.Settings.{Settings}
-use Rattle.rules.proofs.Held.{segment-in, clauses}
-use Rattle.rules.proofs.Sized.{sized}
-use Rattle.rules.proofs.Checked.{Accepted, step-accepted}
+use Rattle.rules.proofs.GoodForm.Held.{segment-in, clauses}
+use Rattle.rules.proofs.Sizes.Sized.{sized}
+use Rattle.rules.proofs.Refusals.Checked.{Accepted, step-accepted}
 use Rattle.rules.proofs.Branches.{branch, both-arms}
-use Rattle.rules.proofs.Keeps.{process-fits}
+use Rattle.rules.proofs.GoodForm.Keeps.{process-fits}
 use Rattle.rules.proofs.Demand3.Change.{never, change-all}
 use Rattle.rules.proofs.Demand3.Runs.{begin-cases, step-cases, ready-fine, Shaped, fresh-idle, fresh-is, run-shaped, accepts}
 

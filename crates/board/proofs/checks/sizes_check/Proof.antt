@@ -1,4 +1,4 @@
-use Rattle.rules.proofs.Sized.{sized}
+use Rattle.rules.proofs.Sizes.Sized.{sized}
 use Rattle.rules.specs.Refusals as refusals
 use mathlib.Core.Path.{_∙_, sym}
 use borrow.Author.Tests.{le-ltb, lt-ltb, not-true, not-false}

@@ -1,6 +1,6 @@
 use native.Mathlib.Omega.{arith}
 use mathlib.Core.Path.{_∙_, sym}
-use Rattle.rules.proofs.Held as held
+use Rattle.rules.proofs.GoodForm.Held as held
 use Rattle.rules.specs.GoodForm as form
 use borrow.Author.Needs.{needs}
 use Rattle.form.proofs.places.many_place_open.Statement.{statement}

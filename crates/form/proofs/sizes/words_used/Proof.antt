@@ -1,4 +1,4 @@
-use Rattle.rules.proofs.Addresses as addresses
+use Rattle.rules.proofs.Sizes.Addresses as addresses
 use native.Mathlib.Omega.{arith}
 use borrow.Author.Needs.{needs}
 use Rattle.form.proofs.sizes.words_used.Statement.{statement}

@@ -1,5 +1,5 @@
 use Rattle.rules.specs.GoodForm as form
-use Rattle.rules.proofs.Held as held
+use Rattle.rules.proofs.GoodForm.Held as held
 use borrow.Author.Needs.{needs}
 use Rattle.form.proofs.words.words_fit.Statement.{statement}
 use Rattle.form.proofs.words.words_fit.Tie as tie

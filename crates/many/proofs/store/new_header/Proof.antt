@@ -1,4 +1,4 @@
-use Rattle.rules.proofs.Addresses.{number-fits}
+use Rattle.rules.proofs.Sizes.Addresses.{number-fits}
 use Rattle.rules.specs.Sizes.{bits}
 use Rattle.word.proofs.Laws.{tag-lt, next-lt}
 use Rattle.word.specs.Word.{tagLimit}

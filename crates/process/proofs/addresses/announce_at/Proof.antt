@@ -1,5 +1,5 @@
 use native.Mathlib.Omega.{arith}
-use Rattle.rules.proofs.Addresses.{announce-in, used-most}
+use Rattle.rules.proofs.Sizes.Addresses.{announce-in, used-most}
 use borrow.Author.Needs.{needs}
 use Rattle.process.proofs.addresses.announce_at.Statement.{statement}
 use Rattle.process.proofs.addresses.announce_at.Tie as tie

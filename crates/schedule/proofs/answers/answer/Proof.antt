@@ -5,7 +5,7 @@ use mathlib.Core.List.{List}
 use Prim.Native.Nat.{ℕ}
 use Rattle.rules.specs.GoodForm.{openFits}
 use Rattle.rules.specs.declared.Moved.{Moved}
-use Rattle.rules.proofs.Held.{in-form}
+use Rattle.rules.proofs.GoodForm.Held.{in-form}
 use Rattle.schedule.proofs.Answering.{answers}
 use Rattle.schedule.proofs.OpenAfter.{move-open}
 use borrow.Author.Needs.{needs}

@@ -1,0 +1,42 @@
+-- What document 01's slips that look right get wrong and P1 to P10 do not show, by computation: a witness is the process
+-- of the header just read; a store of kind many that answers no closes its sequence, and moves the tag; a set-up clears the
+-- words used. Assumes nothing.
+use mathlib.Core.Path.{_≡_, refl}
+use mathlib.Core.List.{[], _∷_}
+use Rattle.word.specs.declared.Refusal.the-variants.{NoOpenSequence}
+use Rattle.rules.specs.Entry.{setUpRule}
+use Rattle.rules.specs.Runs.{step, rows}
+use Rattle.rules.specs.Schedules.{settings, ll, sc, row, begun, busy, small}
+use Rattle.rules.specs.declared.Answer.the-variants.{Value, Witness, Yes, No, Refused}
+use Rattle.rules.specs.declared.Kind.the-variants.{One, Many}
+use Rattle.rules.proofs.Cases.Computing.{schedule}
+
+pub record Slips : Type 0 where
+  -- P8 with the processes changed over: the header that process 0 was given names 0, the one just read names 1. The
+  -- sequence is open after the witness, so a store begins, answers no at its first step, and closes it
+  pub witness : rows small
+      (ll 1 0 ∷ step 1 ∷ step 1 ∷ step 1 ∷ ll 0 0 ∷ step 0
+      ∷ sc 1 0 5 ∷ step 1 ∷ step 1 ∷ step 1 ∷ step 1 ∷ step 1 ∷ step 1 ∷ step 1
+      ∷ step 0 ∷ step 0 ∷ sc 0 0 9 ∷ step 0 ∷ sc 0 0 9 ∷ [])
+      ≡ begun 0 ∷ busy 1 ∷ busy 1 ∷ row Value 1 (0 ∷ []) ∷ begun 0 ∷ busy 1
+      ∷ begun 1 ∷ busy 1 ∷ busy 1 ∷ busy 1 ∷ busy 1 ∷ busy 1 ∷ busy 1 ∷ row Yes 0 []
+      ∷ busy 1 ∷ row (Witness 1) 1 (1 ∷ []) ∷ begun 1 ∷ row No 0 [] ∷ row (Refused NoOpenSequence) 0 (7 ∷ []) ∷ []
+  -- both load; both stand before the header's swap; process 1 swaps, so process 0's swap fails, answers no and closes
+  pub failed-swap : rows small
+      (ll 0 0 ∷ step 0 ∷ step 0 ∷ step 0 ∷ ll 1 0 ∷ step 1 ∷ step 1 ∷ step 1
+      ∷ sc 0 0 5 ∷ step 0 ∷ step 0 ∷ sc 1 0 6 ∷ step 1 ∷ step 1 ∷ step 1 ∷ step 0 ∷ [])
+      ≡ begun 0 ∷ busy 1 ∷ busy 1 ∷ row Value 1 (0 ∷ []) ∷ begun 0 ∷ busy 1 ∷ busy 1 ∷ row Value 1 (0 ∷ [])
+      ∷ begun 1 ∷ busy 1 ∷ busy 1 ∷ begun 1 ∷ busy 1 ∷ busy 1 ∷ busy 1 ∷ row No 0 [] ∷ []
+  -- P9 of kind many: a store of the value already there moves the tag, so the other store's first test says no
+  pub equal-value : rows small
+      (ll 0 0 ∷ step 0 ∷ step 0 ∷ step 0 ∷ ll 1 0 ∷ step 1 ∷ step 1 ∷ step 1
+      ∷ sc 0 0 0 ∷ step 0 ∷ step 0 ∷ step 0 ∷ sc 1 0 0 ∷ step 1 ∷ [])
+      ≡ begun 0 ∷ busy 1 ∷ busy 1 ∷ row Value 1 (0 ∷ []) ∷ begun 0 ∷ busy 1 ∷ busy 1 ∷ row Value 1 (0 ∷ [])
+      ∷ begun 1 ∷ busy 1 ∷ busy 1 ∷ busy 1 ∷ begun 1 ∷ row No 0 [] ∷ []
+  -- a set-up over memory that is not 0 clears the words used, two of kind one and four of kind many, and no other
+  pub set-up-one : setUpRule (settings 2 One 2 48 1) (7 ∷ 7 ∷ 7 ∷ 7 ∷ []) .1 ≡ 0 ∷ 0 ∷ 7 ∷ 7 ∷ []
+  pub set-up-many : setUpRule (settings 2 Many 1 4 1) (7 ∷ 7 ∷ 7 ∷ 7 ∷ 7 ∷ 7 ∷ []) .1 ≡ 0 ∷ 0 ∷ 0 ∷ 0 ∷ 7 ∷ 7 ∷ []
+
+pub ruled-out : Slips
+unfolding schedule
+ruled-out = record { witness = refl; failed-swap = refl; equal-value = refl; set-up-one = refl; set-up-many = refl }
