@@ -29,7 +29,8 @@ use Rattle.rules.specs.declared.Settings.{Settings}
 use Rattle.rules.specs.declared.Process.{Process}
 use Rattle.word.specs.declared.Refusal.{Refusal}
 use Rattle.word.specs.declared.Refusal.the-variants.{NoSuchProcess, ProcessIdle}
-use Rattle.board.specs.OneProcess.{beginProcessBy, beginProcessRule, laidBack}
+use Rattle.calls.specs.OneProcess.{beginProcessBy, beginProcessRule}
+use Rattle.board.specs.LaidBack.{laidBack}
 
 idle-place : (place : Place) → isIdle place ≡ true → place ≡ Idle
 idle-place Idle e = refl

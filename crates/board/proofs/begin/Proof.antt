@@ -1,4 +1,4 @@
-use Rattle.board.specs.OneProcess.{laidBack}
+use Rattle.board.specs.LaidBack.{laidBack}
 use Rattle.rules.specs.declared.Moved.{Moved}
 use Rattle.board.proofs.Serving as serving
 use Rattle.form.proofs.Fine as fine
