@@ -1,4 +1,5 @@
 pub mod Tests
+pub mod Trying
 pub mod Sized
 pub mod Addresses
 pub mod Masks
@@ -11,12 +12,14 @@ pub mod Counts
 pub mod Places
 pub mod Frame
 pub mod Refusing
+pub mod OneProcess
 pub mod Shapes
 pub mod Written
 pub mod Sounds
 pub mod Kept
 pub mod FirstPlace
 pub mod Keeps
+pub mod Served
 pub mod Fresh
 pub mod Reach
 pub mod Leaves

@@ -19,6 +19,9 @@ pub use Rattle.rules.proofs.Counts.{count-none, opening-counts, closing
 pub use Rattle.rules.proofs.Checked.{Stands, stands, stands-fine, Accepted, accepted, accepted-fine, step-accepted, step-fine, Beginning, begin-accepted, begin-fine}
 -- a refusal leaves board and words as found, and is answered exactly where the check gives it
 pub use Rattle.rules.proofs.Refusing.{set-up-refused, begin-refused, step-refused, count-refused, set-up-refuses, begin-refuses, step-refuses}
+-- what 1 to 4 find is answered before all else; past them, a step is that of its one process
+pub use Rattle.rules.proofs.Refusing.{begin-refused-first, step-refused-first}
+pub use Rattle.rules.proofs.OneProcess.{idle-step, step-served}
 -- every entry point refuses the blank board 1
 pub use Rattle.rules.proofs.Refusing.{blank-check, blank-begin, blank-step, blank-count}
 -- a fresh set-up is in good form, its words used are 0, and those past them are as lent
