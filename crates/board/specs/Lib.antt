@@ -1,1 +1,1 @@
-pub mod OneProcess
+pub mod LaidBack

@@ -42,7 +42,8 @@ fn fresh_board(s: Settings) -> Board
     }
 }
 
-fn blank_board() -> Board
+// A board of no size, which every entry point refuses with 1.
+pub fn blank_board() -> Board
     ensures { λ r. ⌜ r ≡ blankBoard ⌝ }
 {
     fresh_board(Settings {

@@ -3,12 +3,12 @@
 ghost use mathlib.Core.Path.{_≡_};
 ghost use mathlib.Core.List.{List};
 ghost use Prim.Native.Nat.{ℕ, _<_};
-ghost use Rattle.board.specs.OneProcess.{laidBack};
+ghost use Rattle.board.specs.LaidBack.{laidBack};
 ghost use Rattle.rules.specs.Entry.{refusing, beginRule, stepRule, openCountRule};
 ghost use Rattle.rules.specs.declared.Answered.{Answered};
+use calls::begin_process;
+use calls::sequences_open;
 use checks::process_check;
-use one_process::begin_process;
-use one_process::sequences_open;
 use rules::Answer;
 use rules::Answered;
 use rules::Board;
@@ -20,11 +20,10 @@ use rules::Values;
 use steps::process_step;
 use word::Refusal;
 
-mod calls; // calls.rt: refusals 5 to 8, of a process and a call
 mod checks; // checks.rt: refusals 1 to 4, of a board
-mod fresh; // fresh.rt: set-up
-pub mod one_process; // one_process.rt: a begin and an open count of one process by value
+mod fresh; // fresh.rt: set-up, and the blank board
 
+pub use fresh::blank_board;
 pub use fresh::set_up;
 
 fn refusing(board: Board, refusal: Refusal) -> Answered

@@ -1,5 +1,5 @@
-// The code of Figure 6 of source document 001, many segments, with document 01's mended line: a function for each place,
-// which takes the step from there. Here the load's and the validate's own places; the numbers are the figure's lines.
+// The code of Figure 6 of source document 001, many segments, but for its Copy: a function for each place, which takes
+// the step from there. Here the load's and the validate's own places; the numbers are the figure's lines.
 ghost use mathlib.Core.Path.{_≡_};
 ghost use Prim.Native.Nat.{_≤_, _<_};
 ghost use lib.ListN.{length};
@@ -23,8 +23,6 @@ use rules::Process;
 use rules::Settings;
 
 pub mod store; // store.rt: the store's places, up to its Copy
-pub mod copy; // copy.rt: Copy's places
-mod gathered; // gathered.rt: what Copy does with a segment's value, and how it ends
 
 // 10, 11, 12: read the header, keep its tag, then Copy with that header, gathering values; the sequence opens.
 pub fn load_reads_header(s: Settings, p: Process, x: usize, mem: &mut [u64]) -> Moved

@@ -26,6 +26,9 @@ pub use Rattle.rules.proofs.Sequences.Counts.{count-none, opening-count
 pub use Rattle.rules.proofs.Refusals.Checked.{Stands, stands, stands-fine, Accepted, accepted, accepted-fine, step-accepted, step-fine, Beginning, begin-accepted, begin-fine}
 -- a refusal leaves board and words as found, and is answered exactly where the check gives it
 pub use Rattle.rules.proofs.Refusals.Refusing.{set-up-refused, begin-refused, step-refused, count-refused, set-up-refuses, begin-refuses, step-refuses}
+-- what 1 to 4 find is answered before all else; past them, a step is that of its one process
+pub use Rattle.rules.proofs.Refusals.Refusing.{begin-refused-first, step-refused-first}
+pub use Rattle.rules.proofs.Refusals.OneProcess.{idle-step, step-served}
 -- every entry point refuses the blank board 1
 pub use Rattle.rules.proofs.Refusals.Refusing.{blank-check, blank-begin, blank-step, blank-count}
 -- a fresh set-up is in good form, its words used are 0, and those past them are as lent

@@ -25,7 +25,7 @@ use Rattle.rules.specs.declared.Settings.{Settings}
 use Rattle.rules.specs.Bounds.{Sized}
 use Rattle.rules.proofs.Refusals.Checked.{Stands, stands-fine, accepted-fine}
 use Rattle.rules.proofs.Sizes.Sized.{sized}
-use Rattle.board.specs.OneProcess.{beginProcessBy, beginProcessRule}
+use Rattle.calls.specs.OneProcess.{beginProcessBy, beginProcessRule}
 use Rattle.schedule.specs.Moves as moves
 use Rattle.schedule.specs.Order.{InOrder}
 

@@ -13,7 +13,7 @@ use Rattle.rules.specs.declared.Call.{Call}
 use Rattle.rules.specs.declared.Moved.{Moved}
 use Rattle.rules.specs.declared.Process.{Process}
 use Rattle.rules.specs.declared.Settings.{Settings}
-use Rattle.board.specs.OneProcess.{beginProcessRule}
+use Rattle.calls.specs.OneProcess.{beginProcessRule}
 use Rattle.record.specs.declared.Act.{Act}
 use Rattle.record.specs.declared.Act.the-variants.{Step as TakesStep}
 use Rattle.record.specs.declared.schedule.Entry.{Entry}

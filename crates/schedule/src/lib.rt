@@ -4,7 +4,6 @@ ghost use mathlib.Core.Path.{_≡_};
 ghost use mathlib.Core.List.{List};
 ghost use Prim.Native.Nat.{ℕ, _-_, _≤_};
 ghost use lib.ListN.{length, drop};
-ghost use Rattle.rules.specs.Entry.{blankBoard};
 ghost use Rattle.printout.specs.Writing.{Written, putHeading, longestRow};
 ghost use Rattle.schedule.specs.Feeding.{Feeding, feeding, sessionOf, feedOf, finishOf};
 ghost use Rattle.schedule.specs.Order.{Ready};
@@ -19,13 +18,9 @@ mod rows;
 mod setup;
 mod take;
 
+use board::blank_board;
 use printout::put_heading;
 use rules::Board;
-use rules::Kind;
-use rules::Place;
-use rules::Process;
-use rules::Settings;
-use word::Layout;
 
 // Schedule records after this many are refused.
 pub const MOST_RECORDS: u64 = 1000000;
@@ -62,35 +57,12 @@ pub struct Fed {
     pub len: usize,
 }
 
-fn no_board() -> Board
-    ensures { λ r. ⌜ r ≡ blankBoard ⌝ }
-{
-    let p = Process {
-        place: Place::Idle,
-        opened: 0,
-        keep: [0; 16],
-        values: [0; 4],
-        gathered: [0; 4],
-    };
-    let processes = [p; 16];
-    Board {
-        settings: Settings {
-            kind: Kind::One,
-            n: 0,
-            t: 0,
-            w: 0,
-            layout: Layout { bits: 0 },
-        },
-        processes: processes,
-    }
-}
-
 // A run that waits for its set-up; the heading is written.
 pub fn start(out: &mut [u8]) -> Next
     ensures { λ r. ⌜ (r .session ≡ sessionOf beginningRun) × (_≡_ {A = Written} (now (out .exit), r .len) (putHeading (now (out .entry)) 0)) ⌝ }
 {
     let len = put_heading(out, 0);
-    let board = no_board();
+    let board = blank_board();
     Next {
         session: Session {
             stage: Stage::Waiting,

@@ -9,7 +9,7 @@ ghost use Rattle.rules.specs.GoodForm.{processFits};
 ghost use Rattle.rules.specs.Sizes.{wordsUsed};
 ghost use Rattle.rules.specs.declared.Moved.{Moved};
 ghost use Rattle.schedule.specs.Moves.{slotIn, slotOf, stays, begins, steps, moveOf};
-use board::one_process::begin_process;
+use calls::begin_process;
 use record::Entry;
 use rules::Answer;
 use rules::Call;

@@ -4,7 +4,7 @@ ghost use mathlib.Core.Bool.{true};
 ghost use Rattle.rules.specs.GoodForm.{openFits};
 ghost use Rattle.schedule.specs.Moves.{openIn, processRow, rowBy};
 ghost use Rattle.schedule.specs.Run.{setUpRow, callAct, nobodysRow};
-use board::one_process::sequences_open;
+use calls::sequences_open;
 use printout::Open;
 use printout::Row;
 use printout::Who;

@@ -1,7 +1,8 @@
-use Rattle.board.specs.OneProcess.{laidBack}
+use Rattle.board.specs.LaidBack.{laidBack}
 use Rattle.rules.specs.declared.Moved.{Moved}
-use Rattle.board.proofs.Serving as serving
-use Rattle.form.proofs.Fine as fine
+use Rattle.board.proofs.Serving.{begin-served}
+use Rattle.rules.proofs.Refusals.Refusing.{begin-refused-first}
+use Rattle.rules.proofs.Refusals.Served.{Served, served}
 use native.Mathlib.Omega.{arith}
 use mathlib.Core.Path.{ap, _∙_, sym}
 use borrow.Author.Needs.{needs}
@@ -15,27 +16,27 @@ enum-told : tie.Need-enum-told
 enum-told c = search needs
 
 -- past the check, the board can be served for the process
-served : (told : tie.After-enum-told) → fine.Served (told .before .before .before .before .before .args .t1) (told .before .before .before .before .before .args .me) (told .before .before .before .before .before .args .mem .now)
-served told =
+ready : (told : tie.After-enum-told) → let args = told .before .before .before .before .before .args in Served (args .t1) (args .me) (args .mem .now)
+ready told =
     let args = told .before .before .before .before .before .args in
-    fine.process-fine (args .t1) (args .me) (args .mem .now) (sym (told .before .before .process-check .ensures) ∙ told .enum-told .given .1)
+    served (args .t1) (args .me) (args .mem .now) (sym (told .before .before .process-check .ensures) ∙ told .enum-told .given .1)
 
 mul-p : tie.Need-mul-p
 mul-p c =
-    let now = served c in
+    let now = ready c in
     omega arith
 
 element-copy-out-p : tie.Need-element-copy-out-p
 element-copy-out-p c =
-    let now = served c in
+    let now = ready c in
     omega arith
 
 begin-process-requires : tie.Need-begin-process-requires
-begin-process-requires c κs = served (c .before) .sizes
+begin-process-requires c κs = ready (c .before) .sizes
 
 put-back-requires : tie.Need-put-back-requires
 put-back-requires c κs =
-    let now = served (c .before .before) in
+    let now = ready (c .before .before) in
     omega arith
 
 enum-known-check : tie.Need-enum-known-check
@@ -51,14 +52,14 @@ returns c =
     let fine = sym (told .before .before .process-check .ensures) ∙ told .enum-told .given .1 in
     c .put-back .ensures
     ∙ ap (λ (moved : Moved). laidBack (args .t1) (args .me) moved) (c .before .begin-process .ensures)
-    ∙ sym (serving.begin-served (args .t1) (args .me) (args .mem .now) fine (args .call) (args .values))
+    ∙ sym (begin-served (args .t1) (args .me) (args .call) (args .values) (args .mem .now) fine)
 
 returns-2 : tie.Need-returns-2
 returns-2 c =
     let told = c .before .before in
     let args = told .before .before .before .before .before .args in
     let refused = sym (told .before .before .process-check .ensures) ∙ told .check .given .1 in
-    c .refusing .ensures ∙ sym (serving.begin-refused (args .t1) (args .me) (args .mem .now) _ refused (args .call) (args .values))
+    c .refusing .ensures ∙ sym (begin-refused-first (args .t1) (args .me) (args .mem .now) _ refused (args .call) (args .values))
 
 pub begin-spec : {M : Type 1} → statement M
 begin-spec =

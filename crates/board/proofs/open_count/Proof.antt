@@ -1,7 +1,7 @@
 use Rattle.rules.specs.Processes.{processAt}
 use Rattle.rules.proofs.GoodForm.Held as held
 use native.Mathlib.Omega.{arith}
-use Rattle.form.proofs.Fine as fine
+use Rattle.rules.proofs.Refusals.Served.{Served, served}
 use Rattle.rules.specs.Entry as entry
 use mathlib.Core.Path.{_∙_, sym}
 use borrow.Author.Needs.{needs}
@@ -15,26 +15,26 @@ enum-told : tie.Need-enum-told
 enum-told c = search needs
 
 -- past the check, the board can be served for the process
-served : (told : tie.After-enum-told) → fine.Served (told .before .before .before .before .before .args .t1) (told .before .before .before .before .before .args .me) (told .before .before .before .before .before .args .mem .now)
-served told =
+ready : (told : tie.After-enum-told) → let args = told .before .before .before .before .before .args in Served (args .t1) (args .me) (args .mem .now)
+ready told =
     let args = told .before .before .before .before .before .args in
-    fine.process-fine (args .t1) (args .me) (args .mem .now) (sym (told .before .before .process-check .ensures) ∙ told .enum-told .given .1)
+    served (args .t1) (args .me) (args .mem .now) (sym (told .before .before .process-check .ensures) ∙ told .enum-told .given .1)
 
 mul-p : tie.Need-mul-p
 mul-p c =
-    let now = served c in
+    let now = ready c in
     omega arith
 
 element-copy-out-p : tie.Need-element-copy-out-p
 element-copy-out-p c =
-    let now = served c in
+    let now = ready c in
     omega arith
 
 sequences-open-requires : tie.Need-sequences-open-requires
 sequences-open-requires c κs =
     let at = c .before in
     let args = at .before .before .before .before .before .args in
-    held.clauses (args .t1 .settings) (processAt (args .t1) (args .me)) (served at .process) .sequences
+    held.clauses (args .t1 .settings) (processAt (args .t1) (args .me)) (ready at .process) .sequences
 
 enum-known-check : tie.Need-enum-known-check
 enum-known-check c = search needs

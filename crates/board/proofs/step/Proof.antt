@@ -1,8 +1,9 @@
 use Rattle.rules.specs.Figure4.{Step}
 use Rattle.rules.specs.Entry.{stepped}
 use Rattle.rules.specs.declared.Answered.{Answered}
-use Rattle.board.proofs.Serving as serving
-use Rattle.form.proofs.Fine as fine
+use Rattle.rules.proofs.Refusals.OneProcess.{step-served}
+use Rattle.rules.proofs.Refusals.Refusing.{step-refused-first}
+use Rattle.rules.proofs.Refusals.Served.{Served, served}
 use native.Mathlib.Omega.{arith}
 use mathlib.Core.Path.{ap, _∙_, sym}
 use borrow.Author.Needs.{needs}
@@ -16,29 +17,29 @@ enum-told : tie.Need-enum-told
 enum-told c = search needs
 
 -- past the check, the board can be served for the process
-served : (told : tie.After-enum-told) → fine.Served (told .before .before .before .before .before .before .args .t1) (told .before .before .before .before .before .before .args .me) (told .before .before .before .before .before .before .args .mem .now)
-served told =
+ready : (told : tie.After-enum-told) → let args = told .before .before .before .before .before .before .args in Served (args .t1) (args .me) (args .mem .now)
+ready told =
     let args = told .before .before .before .before .before .before .args in
-    fine.process-fine (args .t1) (args .me) (args .mem .now) (sym (told .before .before .process-check .ensures) ∙ told .enum-told .given .1)
+    served (args .t1) (args .me) (args .mem .now) (sym (told .before .before .process-check .ensures) ∙ told .enum-told .given .1)
 
 mul-p : tie.Need-mul-p
 mul-p c =
-    let now = served c in
+    let now = ready c in
     omega arith
 
 element-copy-out-p : tie.Need-element-copy-out-p
 element-copy-out-p c =
-    let now = served c in
+    let now = ready c in
     omega arith
 
 process-step-requires : tie.Need-process-step-requires
 process-step-requires c κs =
-    let now = served (c .before .before) in
+    let now = ready (c .before .before) in
     (now .sizes, now .used, now .known, now .process)
 
 put-back-requires : tie.Need-put-back-requires
 put-back-requires c κs =
-    let now = served (c .before .before .before .before .before) in
+    let now = ready (c .before .before .before .before .before) in
     omega arith
 
 enum-known-check : tie.Need-enum-known-check
@@ -58,7 +59,7 @@ returns c =
     let fine = sym (told .before .before .process-check .ensures) ∙ told .enum-told .given .1 in
     ap (λ (r : Answered). (r, stepped-on .process-step .last .1 .1 .1 .0)) (c .put-back .ensures)
     ∙ ap (λ (done : Step). stepped (args .t1) (args .me) done) (stepped-on .process-step .ensures)
-    ∙ sym (serving.step-served (args .t1) (args .me) (args .mem .now) fine)
+    ∙ sym (step-served (args .t1) (args .me) (args .mem .now) fine)
 
 same-length-2 : tie.Need-same-length-2
 same-length-2 c = search needs
@@ -69,7 +70,7 @@ returns-2 c =
     let args = told .before .before .before .before .before .before .args in
     let refused = sym (told .before .before .process-check .ensures) ∙ told .check .given .1 in
     ap (λ (r : Answered). (r, args .mem .now)) (c .refusing .ensures)
-    ∙ sym (serving.step-refused (args .t1) (args .me) (args .mem .now) _ refused)
+    ∙ sym (step-refused-first (args .t1) (args .me) (args .mem .now) _ refused)
 
 pub step-spec : {M : Type 1} → statement M
 step-spec =

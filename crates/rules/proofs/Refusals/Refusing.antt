@@ -47,6 +47,16 @@ pub count-refused : (board : Board) (me : ℕ) (words : List ℕ) (r : Refusal)
 unfolding openCountRule
 count-refused board me words r e = ap (λ (c : Check). openCountBy c board me) e
 
+-- where 1 to 4 find a refusal, it is the answer of a begin and of a step
+module _ (board : Board) (me : ℕ) (words : List ℕ) (r : Refusal) (e : processCheck board me words ≡ Refused r) where
+  pub begin-refused-first : (call : Call) (values : List ℕ) → beginRule board me call values words ≡ refusing board r
+  unfolding beginCheck
+  begin-refused-first call values = begin-refused board me call values words r (rw e)
+
+  pub step-refused-first : stepRule board me words ≡ (refusing board r, words)
+  unfolding stepCheck
+  step-refused-first = step-refused board me words r (rw e)
+
 -- an answer is a refusal exactly where the check is that refusal
 refused-only : {A : Type 0} (r : Refusal) (answer : Answer) → isRefusal answer ≡ false → answer ≡ AnswerRefused r → A
 refused-only r answer other e =
@@ -92,12 +102,10 @@ module _ (me : ℕ) (words : List ℕ) where
 
   pub blank-begin : (call : Call) (values : List ℕ)
       → beginRule blankBoard me call values words ≡ refusing blankBoard SettingOutsideSizes
-  unfolding beginCheck
-  blank-begin call values = begin-refused blankBoard me call values words SettingOutsideSizes (rw blank-check)
+  blank-begin call values = begin-refused-first blankBoard me words SettingOutsideSizes blank-check call values
 
   pub blank-step : stepRule blankBoard me words ≡ (refusing blankBoard SettingOutsideSizes, words)
-  unfolding stepCheck
-  blank-step = step-refused blankBoard me words SettingOutsideSizes (rw blank-check)
+  blank-step = step-refused-first blankBoard me words SettingOutsideSizes blank-check
 
   pub blank-count : openCountRule blankBoard me words ≡ CountRefused SettingOutsideSizes
   blank-count = count-refused blankBoard me words SettingOutsideSizes blank-check

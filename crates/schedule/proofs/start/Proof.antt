@@ -10,17 +10,17 @@ use Rattle.schedule.proofs.start.Tie as tie
 put-heading-requires : tie.Need-put-heading-requires
 put-heading-requires c κs = search needs
 
-no-board-requires : tie.Need-no-board-requires
-no-board-requires c κs = search needs
+blank-board-requires : tie.Need-blank-board-requires
+blank-board-requires c κs = search needs
 
 same-length : tie.Need-same-length
 same-length c = search needs
 
 returns : tie.Need-returns
 returns c = (
-  ap (λ (b : Board). record { stage = Waiting; board = b; count = 0; held = 0; cr = false }) (c .no-board .ensures),
+  ap (λ (b : Board). record { stage = Waiting; board = b; count = 0; held = 0; cr = false }) (c .blank-board .ensures),
   c .before .before .before .put-heading .ensures,
 )
 
 pub start-spec : {M : Type 1} → statement M
-start-spec = tie.close (tie.spec put-heading-requires no-board-requires same-length returns)
+start-spec = tie.close (tie.spec put-heading-requires blank-board-requires same-length returns)

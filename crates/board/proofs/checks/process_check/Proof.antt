@@ -1,4 +1,4 @@
-use Rattle.form.proofs.Fine as fine
+use Rattle.rules.proofs.Refusals.Served.{sizes-served}
 use Rattle.rules.specs.Refusals as refusals
 use mathlib.Core.Path.{_∙_, sym}
 use borrow.Author.Needs.{needs}
@@ -14,7 +14,7 @@ enum-told c = search needs
 form-check-requires : tie.Need-form-check-requires
 form-check-requires c κs =
     let args = c .before .before .before .before .before .args in
-    fine.sizes-fine (args .board .settings) _ (sym (c .before .before .sizes-check .ensures) ∙ c .enum-told .given .1)
+    sizes-served (args .board .settings) (args .mem .now) (sym (c .before .before .sizes-check .ensures) ∙ c .enum-told .given .1)
 
 enum-known-sizes : tie.Need-enum-known-sizes
 enum-known-sizes c = search needs

@@ -1,7 +1,11 @@
 use native.Mathlib.Omega.{arith}
-use Rattle.form.proofs.Fine as fine
+use Rattle.rules.proofs.Refusals.Served.{sizes-served}
 use Rattle.rules.specs.Entry as entry
 use mathlib.Core.Path.{_∙_, sym}
+use Prim.Native.Nat.{_≤_}
+use lib.ListN.{length}
+use Rattle.rules.specs.Bounds.{Sized}
+use Rattle.rules.specs.Sizes.{wordsUsed}
 use borrow.Author.Needs.{needs}
 use Rattle.board.proofs.fresh.set_up.Statement.{statement}
 use Rattle.board.proofs.fresh.set_up.Tie as tie
@@ -12,13 +16,18 @@ sizes-check-requires c κs = search needs
 enum-told : tie.Need-enum-told
 enum-told c = search needs
 
+-- past the check, the settings stand and the words that they use are lent
+ready : (told : tie.After-enum-told) → let args = told .before .before .before .before .args in Sized (args .s) × (wordsUsed (args .s) ≤ length (args .mem .now))
+ready told =
+    let args = told .before .before .before .before .args in
+    sizes-served (args .s) (args .mem .now) (sym (told .before .before .sizes-check .ensures) ∙ told .enum-told .given .1)
+
 words-used-requires : tie.Need-words-used-requires
-words-used-requires c κs = fine.sizes-fine (c .before .before .before .before .args .s) _ (sym (c .before .before .sizes-check .ensures) ∙ c .enum-told .given .1) .0
+words-used-requires c κs = ready c .0
 
 clear-requires : tie.Need-clear-requires
 clear-requires c κs =
-    let at = c .before .before in
-    let sizes = fine.sizes-fine (at .before .before .before .before .args .s) _ (sym (at .before .before .sizes-check .ensures) ∙ at .enum-told .given .1) in
+    let sizes = ready (c .before .before) in
     omega (arith, c .before .words-used .ensures)
 
 fresh-board-requires : tie.Need-fresh-board-requires

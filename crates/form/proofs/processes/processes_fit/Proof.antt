@@ -1,24 +1,23 @@
-use Rattle.rules.specs.Processes.{processAt}
-use Rattle.rules.specs.GoodForm as form
+-- `processes_fit` meets its contract. The invariant: the processes below me fit. Assumes nothing.
+use mathlib.Core.Path.{_∙_, sym}
+use Prim.Native.Nat.{_-_}
 use native.Mathlib.Omega.{arith}
 use borrow.Author.Needs.{needs}
-use Prim.Native.Nat.{ℕ, _≤_, _-_}
-use mathlib.Core.Bool.{Bool, true}
-use Rattle.rules.proofs.Tests.{all-more, all-no}
 use borrow.Author.Tests.{not-true, not-false}
-use mathlib.Core.Path.{_≡_, refl, _∙_, sym}
+use Rattle.rules.specs.GoodForm as form
+use Rattle.rules.specs.Processes.{processAt}
+use Rattle.rules.proofs.Trying.{Passed, none-yet, one-more, one-fails, all-pass}
 use Rattle.form.proofs.processes.processes_fit.Statement.{statement}
 use Rattle.form.proofs.processes.processes_fit.Tie as tie
 
 abbrev Inv-loop : tie.InvT-loop
-Inv-loop board s n me₀ me = (me ≤ n) × (form.all me (λ j. form.processFits s (processAt board j)) ≡ true)
+Inv-loop board s n me₀ me = Passed (λ j. form.processFits s (processAt board j)) n me
 
 abbrev μ-loop : tie.MeasureT-loop
 μ-loop board s n me₀ me = n - me
 
 loop-holds : tie.Need-loop-holds Inv-loop μ-loop
-unfolding form.all
-loop-holds c = (search needs, refl)
+loop-holds c = none-yet _ _
 
 mul-p : tie.Need-mul-p Inv-loop μ-loop
 mul-p c = omega arith
@@ -31,10 +30,7 @@ process-fits-requires c κs = search needs
 
 returns : tie.Need-returns Inv-loop μ-loop
 unfolding form.processesFit
-returns c =
-    let board = c .before .before .before .before .before .before .args .t1 in
-    let test : ℕ → Bool = λ j. form.processFits (board .settings) (processAt board j) in
-    sym (all-no test _ _ (c .before .before .before .loop-test .taken) (sym (c .before .process-fits .ensures) ∙ not-true _ (c .if1 .taken)))
+returns c = one-fails _ _ _ (c .before .before .before .loop-test .taken) (sym (c .before .process-fits .ensures) ∙ not-true _ (c .if1 .taken))
 
 add-me : tie.Need-add-me Inv-loop μ-loop
 add-me c = omega arith
@@ -44,15 +40,12 @@ loop-less c = omega arith
 
 loop-again : tie.Need-loop-again Inv-loop μ-loop
 loop-again c =
-    let board = c .before .before .before .before .before .before .args .t1 in
-    let test : ℕ → Bool = λ j. form.processFits (board .settings) (processAt board j) in
-    (omega arith, all-more test _ (c .before .before .before .before .loop .inv .1) (sym (c .before .process-fits .ensures) ∙ not-false _ (c .if1 .left)))
+    let at = c .before .before .before in
+    one-more _ _ _ (at .before .loop .inv) (at .loop-test .taken) (sym (c .before .process-fits .ensures) ∙ not-false _ (c .if1 .left))
 
 returns-2 : tie.Need-returns-2 Inv-loop μ-loop
 unfolding form.processesFit
-returns-2 c =
-    let through : c .before .loop .me ≡ c .before .before .before .args .t1 .settings .n = omega arith in
-    sym (rw through at (c .before .loop .inv .1))
+returns-2 c = all-pass _ _ _ (c .before .loop .inv) (c .loop-test .left)
 
 pub processes-fit-spec : {M : Type 1} → statement M
 processes-fit-spec =

@@ -1,24 +1,23 @@
-use Rattle.rules.specs.GoodForm as form
-use lib.ListN.{getD}
+-- `values_fit` meets its contract. The invariant: the first i values fit. Assumes nothing.
+use mathlib.Core.Path.{_∙_, sym}
+use Prim.Native.Nat.{_-_}
 use native.Mathlib.Omega.{arith}
+use lib.ListN.{getD}
 use borrow.Author.Needs.{needs}
-use Prim.Native.Nat.{ℕ, _≤_, _-_}
-use mathlib.Core.Bool.{Bool, true}
-use Rattle.rules.proofs.Tests.{all-more, all-no}
 use borrow.Author.Tests.{not-true, not-false}
-use mathlib.Core.Path.{_≡_, refl, _∙_, sym}
+use Rattle.rules.specs.GoodForm as form
+use Rattle.rules.proofs.Trying.{Passed, none-yet, one-more, one-fails, all-pass}
 use Rattle.form.proofs.processes.values_fit.Statement.{statement}
 use Rattle.form.proofs.processes.values_fit.Tie as tie
 
 abbrev Inv-loop : tie.InvT-loop
-Inv-loop s values i₀ i = (i ≤ 4) × (form.all i (λ j. form.valueFits s (getD values j 0)) ≡ true)
+Inv-loop s values i₀ i = Passed (λ j. form.valueFits s (getD values j 0)) 4 i
 
 abbrev μ-loop : tie.MeasureT-loop
 μ-loop s values i₀ i = 4 - i
 
 loop-holds : tie.Need-loop-holds Inv-loop μ-loop
-unfolding form.all
-loop-holds c = (search needs, refl)
+loop-holds c = none-yet _ _
 
 mul-value-fits : tie.Need-mul-value-fits Inv-loop μ-loop
 mul-value-fits c = omega arith
@@ -31,10 +30,7 @@ value-fits-requires c κs = search needs
 
 returns : tie.Need-returns Inv-loop μ-loop
 unfolding form.valuesFit
-returns c =
-    let args = c .before .before .before .before .args in
-    let test : ℕ → Bool = λ j. form.valueFits (args .s) (getD (args .t2) j 0) in
-    sym (all-no test _ 4 (c .before .before .loop-test .taken) (sym (c .before .value-fits .ensures) ∙ not-true _ (c .if1 .taken)))
+returns c = one-fails _ _ _ (c .before .before .loop-test .taken) (sym (c .before .value-fits .ensures) ∙ not-true _ (c .if1 .taken))
 
 add-i : tie.Need-add-i Inv-loop μ-loop
 add-i c = omega arith
@@ -44,15 +40,12 @@ loop-less c = omega arith
 
 loop-again : tie.Need-loop-again Inv-loop μ-loop
 loop-again c =
-    let args = c .before .before .before .before .args in
-    let test : ℕ → Bool = λ j. form.valueFits (args .s) (getD (args .t2) j 0) in
-    (omega arith, all-more test _ (c .before .before .before .loop .inv .1) (sym (c .before .value-fits .ensures) ∙ not-false _ (c .if1 .left)))
+    let at = c .before .before in
+    one-more _ _ _ (at .before .loop .inv) (at .loop-test .taken) (sym (c .before .value-fits .ensures) ∙ not-false _ (c .if1 .left))
 
 returns-2 : tie.Need-returns-2 Inv-loop μ-loop
 unfolding form.valuesFit
-returns-2 c =
-    let through : c .before .loop .i ≡ 4 = omega arith in
-    sym (rw through at (c .before .loop .inv .1))
+returns-2 c = all-pass _ _ _ (c .before .loop .inv) (c .loop-test .left)
 
 pub values-fit-spec : {M : Type 1} → statement M
 values-fit-spec =

@@ -1,33 +1,29 @@
-use Rattle.rules.specs.GoodForm as form
+-- `rows_fit` meets its contract. The invariant: the rows of the first p processes fit. Assumes nothing.
+use mathlib.Core.Path.{_∙_, sym}
+use Prim.Native.Nat.{_-_}
 use native.Mathlib.Omega.{arith}
 use borrow.Author.Needs.{needs}
-use Prim.Native.Nat.{ℕ, _≤_, _-_}
-use mathlib.Core.Bool.{Bool, true}
-use Rattle.rules.proofs.Tests.{all-more, all-no}
 use borrow.Author.Tests.{not-true, not-false}
-use mathlib.Core.Path.{_≡_, refl, _∙_, sym}
+use Rattle.rules.specs.GoodForm as form
+use Rattle.rules.proofs.Trying.{Passed, none-yet, one-more, one-fails, all-pass}
 use Rattle.form.proofs.words.rows_fit.Statement.{statement}
 use Rattle.form.proofs.words.rows_fit.Tie as tie
 
 abbrev Inv-loop : tie.InvT-loop
-Inv-loop s mem n p₀ p = (p ≤ n) × (form.all p (λ q. form.rowFits s q mem) ≡ true)
+Inv-loop s mem n p₀ p = Passed (λ q. form.rowFits s q mem) n p
 
 abbrev μ-loop : tie.MeasureT-loop
 μ-loop s mem n p₀ p = n - p
 
 loop-holds : tie.Need-loop-holds Inv-loop μ-loop
-unfolding form.all
-loop-holds c = (search needs, refl)
+loop-holds c = none-yet _ _
 
 row-fits-requires : tie.Need-row-fits-requires Inv-loop μ-loop
 row-fits-requires c κs = search needs
 
 returns : tie.Need-returns Inv-loop μ-loop
 unfolding form.rowsFit
-returns c =
-    let args = c .before .before .before .before .before .args in
-    let test : ℕ → Bool = λ q. form.rowFits (args .s) q (args .mem .now) in
-    sym (all-no test _ _ (c .before .before .loop-test .taken) (sym (c .before .row-fits .ensures) ∙ not-true _ (c .if1 .taken)))
+returns c = one-fails _ _ _ (c .before .before .loop-test .taken) (sym (c .before .row-fits .ensures) ∙ not-true _ (c .if1 .taken))
 
 add-p : tie.Need-add-p Inv-loop μ-loop
 add-p c = omega arith
@@ -37,15 +33,12 @@ loop-less c = omega arith
 
 loop-again : tie.Need-loop-again Inv-loop μ-loop
 loop-again c =
-    let args = c .before .before .before .before .before .args in
-    let test : ℕ → Bool = λ q. form.rowFits (args .s) q (args .mem .now) in
-    (omega arith, all-more test _ (c .before .before .before .loop .inv .1) (sym (c .before .row-fits .ensures) ∙ not-false _ (c .if1 .left)))
+    let at = c .before .before in
+    one-more _ _ _ (at .before .loop .inv) (at .loop-test .taken) (sym (c .before .row-fits .ensures) ∙ not-false _ (c .if1 .left))
 
 returns-2 : tie.Need-returns-2 Inv-loop μ-loop
 unfolding form.rowsFit
-returns-2 c =
-    let through : c .before .loop .p ≡ c .before .before .before .args .s .n = omega arith in
-    sym (rw through at (c .before .loop .inv .1))
+returns-2 c = all-pass _ _ _ (c .before .loop .inv) (c .loop-test .left)
 
 pub rows-fit-spec : {M : Type 1} → statement M
 rows-fit-spec =
