@@ -10,7 +10,7 @@ use Rattle.record.specs.declared.Act.{Act}
 use Rattle.record.specs.declared.Act.the-variants.{Load, Validate, Store, Step}
 use Rattle.rules.specs.Text.{ascii}
 use Rattle.printout.specs.Text.{line}
-use Rattle.record.specs.Decimal.{decimalIn}
+use Rattle.fields.specs.Decimal.{decimalIn}
 use Rattle.printout.specs.Row.{heading, rowOf}
 use Rattle.printout.specs.Writing.{longestRow}
 use Rattle.printout.specs.declared.Row.{Row}

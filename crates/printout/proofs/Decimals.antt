@@ -4,8 +4,8 @@ use mathlib.Core.List.{[], _∷_}
 use Prim.Native.Nat.{ℕ, _+_, _-_, _<_, _≤_, _/_, _%_, _^_}
 use native.Mathlib.Omega.{arith}
 use lib.ListN.{length, length-append}
-use Rattle.record.specs.Decimal.{decimal, decimalIn}
-use Rattle.record.proofs.Decimals.{decimal-long, tenth}
+use Rattle.fields.specs.Decimal.{decimal, decimalIn}
+use Rattle.fields.proofs.Decimals.{decimal-long, tenth}
 
 -- a number of two digits or more has one more than its tenth
 longer : (most n : ℕ) → 0 < most → 9 < n → length (decimalIn most n) ≡ length (decimalIn (most - 1) (n / 10)) + 1

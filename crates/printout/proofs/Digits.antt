@@ -8,8 +8,8 @@ use lib.Dec.{ltb}
 use lib.ListN.{length, set, length-append}
 use lib.Seq.{sets}
 use borrow.Author.Tests.{ltb-true, ltb-false}
-use Rattle.record.specs.Decimal.{decimal, decimalIn}
-use Rattle.record.proofs.Decimals.{decimal-short, decimal-long, tenth}
+use Rattle.fields.specs.Decimal.{decimal, decimalIn}
+use Rattle.fields.proofs.Decimals.{decimal-short, decimal-long, tenth}
 use Rattle.printout.proofs.Puts.{sets-more, sets-after}
 
 -- the last k digits of n

@@ -18,7 +18,7 @@ use Rattle.printout.specs.declared.Who.{Who}
 use Rattle.printout.specs.declared.Who.the-variants.{Nobody, SetUp, Process}
 use Rattle.printout.specs.declared.Open.{Open}
 use Rattle.printout.specs.declared.Open.the-variants.{Blank, Count}
-use Rattle.record.proofs.Decimals.{short}
+use Rattle.fields.proofs.Decimals.{short}
 use Rattle.printout.proofs.Rows.{length-values, length-row}
 
 act-at-most : (act : Act) → length (actWord act) ≤ 4

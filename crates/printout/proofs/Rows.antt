@@ -8,7 +8,7 @@ use lib.Dec.{leb}
 use lib.ListN.{length, getD, take, length-append}
 use lib.Seq.{take-all}
 use borrow.Author.Tests.{leb-true, leb-false}
-use Rattle.record.specs.Decimal.{decimal}
+use Rattle.fields.specs.Decimal.{decimal}
 use Rattle.rules.specs.Text.{ascii}
 use Rattle.printout.specs.Text.{after, rest}
 use Rattle.printout.specs.Row.{processField, actField, openField, valueField, valueFields, rowOf}

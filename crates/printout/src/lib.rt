@@ -1,16 +1,17 @@
 // The printout: its heading and its rows, written into lent bytes.
 ghost use mathlib.Core.Path.{_≡_};
 ghost use mathlib.Core.List.{_++_};
-ghost use Prim.Native.Nat.{_+_, _-_, _≤_, _<_, min};
+ghost use Prim.Native.Nat.{_+_, _-_, _≤_, _<_};
 ghost use lib.ListN.{length, take};
 ghost use Rattle.word.specs.Refusals.{number};
-ghost use Rattle.record.specs.Decimal.{decimal};
+ghost use Rattle.fields.specs.Decimal.{decimal};
 ghost use Rattle.printout.specs.Text.{after, rest};
 ghost use Rattle.record.specs.Words.{actWord};
 ghost use Rattle.printout.specs.Row.{processField, actField, openField, valueField, valueFields, rowOf};
 ghost use Rattle.rules.specs.Answers.{answerWord, numbersOf};
 ghost use Rattle.printout.specs.Writing.{Put, Written, putRow, putHeading};
 use record::Act;
+use record::at_most_four;
 use rules::Answer;
 use word::Refusal;
 
@@ -195,13 +196,6 @@ fn refusal_number(refusal: Refusal) -> u64
 struct Numbers {
     list: [u64; 4],
     count: usize,
-}
-
-// More than four values are no more than the four there are.
-fn at_most_four(w: usize) -> usize
-    ensures { λ r. ⌜ r ≡ min w 4 ⌝ }
-{
-    if w < 4 { w } else { 4 }
 }
 
 fn numbers_of(answer: Answer, w: usize, values: [u64; 4]) -> Numbers

@@ -3,7 +3,7 @@ use mathlib.Core.Path.{ap}
 use Prim.Native.Nat.{_-_}
 use native.Mathlib.Omega.{arith}
 use lib.ListN.{length}
-use Rattle.record.proofs.Decimals.{decimal-short}
+use Rattle.fields.proofs.Decimals.{decimal-short}
 use Rattle.printout.proofs.Decimals.{Counted, counted-more}
 use Rattle.printout.proofs.digit_count.Statement.{statement}
 use Rattle.printout.proofs.digit_count.Tie as tie

@@ -6,7 +6,7 @@ use Prim.Native.Nat.{ℕ, _≤_, _+_}
 use native.Mathlib.Omega.{arith}
 use lib.ListN.{length, length-set}
 use lib.Seq.{sets}
-use Rattle.record.specs.Decimal.{decimal}
+use Rattle.fields.specs.Decimal.{decimal}
 use Rattle.printout.proofs.Digits.{lastDigits, decimal-last, digit-put}
 use Rattle.printout.proofs.put_decimal.Statement.{statement}
 use Rattle.printout.proofs.put_decimal.Tie as tie

@@ -1,4 +1,4 @@
-use Rattle.record.specs.Decimal.{decimal}
+use Rattle.fields.specs.Decimal.{decimal}
 use Rattle.printout.specs.Text.{after}
 use Rattle.record.specs.Words.{actWord}
 -- `put_who` goes by cases: the bytes of the case are those of the two fields. Assumes nothing.
