@@ -9,7 +9,7 @@ use Rattle.rules.specs.declared.Answer.the-variants.{Begun, Busy, Value, Witnes
 use Rattle.record.specs.declared.Act.{Act}
 use Rattle.record.specs.declared.Act.the-variants.{Load, Validate, Store, Step}
 use Rattle.rules.specs.Text.{ascii}
-use Rattle.printout.specs.Text.{line}
+use Rattle.writing.specs.Line.{line}
 use Rattle.fields.specs.Decimal.{decimalIn}
 use Rattle.printout.specs.Row.{heading, rowOf}
 use Rattle.printout.specs.Writing.{longestRow}

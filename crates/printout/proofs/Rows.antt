@@ -10,7 +10,7 @@ use lib.Seq.{take-all}
 use borrow.Author.Tests.{leb-true, leb-false}
 use Rattle.fields.specs.Decimal.{decimal}
 use Rattle.rules.specs.Text.{ascii}
-use Rattle.printout.specs.Text.{after, rest}
+use Rattle.writing.specs.Line.{after, rest}
 use Rattle.printout.specs.Row.{processField, actField, openField, valueField, valueFields, rowOf}
 use Rattle.rules.specs.Answers.{answerWord, numbersOf}
 use Rattle.printout.specs.declared.Row.{Row}
