@@ -33,20 +33,27 @@ unfolding inForm bodyOf bodyLength closed noStray commas
 line-feed-refused = refl
 
 -- fields are counted from 0, and the closing pair is in none
-fields-told : (fieldOf (ascii "0,SC,1,7,,,\r\n") 1 ≡ ascii "SC") × (fieldOf (ascii "0,SC,1,7,,,\r\n") 3 ≡ ascii "7") × (fieldOf (ascii "0,SC,1,7,,,\r\n") 6 ≡ [])
+fields-told : (fieldOf (ascii "0,SC,1,7,,,\r\n") 1 ≡ ascii "SC")
+    × (fieldOf (ascii "0,SC,1,7,,,\r\n") 3 ≡ ascii "7")
+    × (fieldOf (ascii "0,SC,1,7,,,\r\n") 6 ≡ [])
 unfolding fieldOf partOf upToComma pastComma bodyOf bodyLength closed
 fields-told = (refl, refl, refl)
 
 -- 0 is a number; nothing at all, 00 and 1a are none, and 2^64 is too great
-numbers-told : (numberCase (ascii "0") ≡ Told 0) × (numberCase (ascii "65535") ≡ Told 65535) × (numberCase [] ≡ Blank) × (numberCase (ascii "00") ≡ LeadingZero) × (numberCase (ascii "1a") ≡ NotADigit) × (numberCase (ascii "18446744073709551616") ≡ TooGreat)
+numbers-told : (numberCase (ascii "0") ≡ Told 0)
+    × (numberCase (ascii "65535") ≡ Told 65535)
+    × (numberCase [] ≡ Blank)
+    × (numberCase (ascii "00") ≡ LeadingZero)
+    × (numberCase (ascii "1a") ≡ NotADigit)
+    × (numberCase (ascii "18446744073709551616") ≡ TooGreat)
 unfolding numberCase zeroLeads allDigits valueFrom
 numbers-told = (refl, refl, refl, refl, refl, refl)
 
--- a number is written as it is read
+-- a number is written as it is read, 2^64 too
 zero-written : decimal 0 ≡ ascii "0"
 unfolding decimalIn
 zero-written = refl
 
-greatest-written : decimal (2 ^ 64) ≡ ascii "18446744073709551616"
+power-written : decimal (2 ^ 64) ≡ ascii "18446744073709551616"
 unfolding decimalIn
-greatest-written = refl
+power-written = refl

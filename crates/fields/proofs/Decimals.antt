@@ -15,7 +15,8 @@ unfolding decimalIn
 short zero n = omega arith
 short (suc room) n = by-test (ltb n 10) (short room (n / 10))
   where
-    by-test : (b : Bool) → length (decimalIn room (n / 10)) ≤ room → length (cond b ((48 + n) ∷ []) (decimalIn room (n / 10) ++ ((48 + n % 10) ∷ []))) ≤ suc room
+    by-test : (b : Bool) → length (decimalIn room (n / 10)) ≤ room
+        → length (cond b ((48 + n) ∷ []) (decimalIn room (n / 10) ++ ((48 + n % 10) ∷ []))) ≤ suc room
     by-test true h = omega arith
     by-test false h = omega (arith, length-append (decimalIn room (n / 10)) ((48 + n % 10) ∷ []))
 

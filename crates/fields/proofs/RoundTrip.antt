@@ -42,7 +42,9 @@ by-digits P one more (suc room) n p h =
     let e : suc room - 1 ≡ room = omega arith in
     by-digits P one more room (n / 10) (omega arith) (rw e at (t .1)))
   where
-    by-test : (b : Bool) → ltb n 10 ≡ b → (9 < n → P (n / 10) (decimalIn room (n / 10)) × (0 < length (decimalIn room (n / 10)))) → P n (decimalIn (suc room) n) × (0 < length (decimalIn (suc room) n))
+    by-test : (b : Bool) → ltb n 10 ≡ b
+        → (9 < n → P (n / 10) (decimalIn room (n / 10)) × (0 < length (decimalIn room (n / 10))))
+        → P n (decimalIn (suc room) n) × (0 < length (decimalIn (suc room) n))
     by-test true e k =
         let l : n ≤ 9 = omega (arith, ltb-true n 10 e) in
         rw (decimal-short (suc room) n p l) (one n l, omega arith)
@@ -50,7 +52,8 @@ by-digits P one more (suc room) n p h =
         let g : 9 < n = omega (arith, ltb-false n 10 e) in
         let r = k g in
         let q : suc room - 1 ≡ room = omega arith in
-        rw (decimal-long (suc room) n p g, q) (more n (decimalIn room (n / 10)) g (r .1) (r .0), omega (arith, length-append (decimalIn room (n / 10)) ((48 + n % 10) ∷ [])))
+        let longer = length-append (decimalIn room (n / 10)) ((48 + n % 10) ∷ []) in
+        rw (decimal-long (suc room) n p g, q) (more n (decimalIn room (n / 10)) g (r .1) (r .0), omega (arith, longer))
 
 -- a number's digits: they are digits, they spell it, the first is no zero but for 0, and only 0 .. 9 have one digit
 abbrev Spelt : ℕ → List ℕ → Type 0

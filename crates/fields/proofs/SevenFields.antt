@@ -12,7 +12,7 @@ use Rattle.fields.specs.Form.{bodyOf, noStray, commas, inForm}
 use Rattle.fields.specs.Fields.{upToComma, pastComma, partOf, fieldOf}
 use Rattle.rules.proofs.Tests.{and-right}
 
--- it has one field more than commas
+-- six commas part its seven fields
 in-form-commas : (s : List ℕ) → inForm s ≡ true → commas (bodyOf s) ≡ 6
 unfolding inForm
 in-form-commas s e =

@@ -78,7 +78,8 @@ unfolding upToComma
 up-to-take [] = refl
 up-to-take (x ∷ xs) = cut (eqb x 44) (up-to-take xs)
   where
-    cut : (b : Bool) → take (length (upToComma xs)) xs ≡ upToComma xs → take (length (cond b [] (x ∷ upToComma xs))) (x ∷ xs) ≡ cond b [] (x ∷ upToComma xs)
+    cut : (b : Bool) → take (length (upToComma xs)) xs ≡ upToComma xs
+        → take (length (cond b [] (x ∷ upToComma xs))) (x ∷ xs) ≡ cond b [] (x ∷ upToComma xs)
     cut true e = refl
     cut false e = ap (λ l. x ∷ l) e
 

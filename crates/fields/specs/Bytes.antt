@@ -1,4 +1,4 @@
--- The bytes that a record's form speaks of, by their ASCII numbers.
+-- The bytes that a record's form and its numbers speak of, as ASCII numbers them.
 use Prim.Native.Nat.{ℕ}
 
 abbrev pub comma : ℕ

@@ -9,6 +9,5 @@ pub use number::number_at;
 pub use number::read_number;
 pub use parts::blank_from;
 pub use parts::field;
-pub use shape::MOST_BYTES;
 pub use shape::body;
 pub use shape::in_form;

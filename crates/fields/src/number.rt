@@ -15,7 +15,7 @@ const MOST_TENTH: u64 = 1844674407370955161;
 
 const MOST: u64 = 18446744073709551615;
 
-// 0 itself does not begin with a leading zero.
+// Whether a zero stands before other digits: 0 itself does not begin with a leading zero.
 fn zero_leads(digits: &[u8]) -> bool
     ensures { λ r. ⌜ r ≡ zeroLeads (now (digits .entry)) ⌝ }
 {

@@ -7,10 +7,12 @@ ghost use lib.ListN.{length};
 ghost use Rattle.fields.specs.Form.{closed, bodyLength, bodyOf, stray, noStray, commas, inForm};
 
 // A record with its closing pair has at most so many bytes.
-pub const MOST_BYTES: usize = 512;
+const MOST_BYTES: usize = 512;
 
+// A record has so many fields.
 pub(crate) const FIELDS: usize = 7;
 
+// Whether a record ends in the closing pair.
 fn is_closed(bytes: &[u8]) -> bool
     ensures { λ r. ⌜ r ≡ closed (now (bytes .entry)) ⌝ }
 {
@@ -55,6 +57,7 @@ fn is_stray(byte: u8) -> bool
     byte == b'\n'
 }
 
+// Whether a body holds nothing stray and one comma fewer than fields.
 fn has_seven_fields(inside: &[u8]) -> bool
     ensures { λ r. ⌜ r ≡ noStray (now (inside .entry)) && eqb (commas (now (inside .entry)) + 1) 7 ⌝ }
 {

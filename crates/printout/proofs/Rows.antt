@@ -15,6 +15,7 @@ use Rattle.printout.specs.Row.{processField, actField, openField, valueF
 use Rattle.rules.specs.Answers.{answerWord, numbersOf}
 use Rattle.printout.specs.declared.Row.{Row}
 
+-- a value field holds its number where there is one, and is blank where not
 pub filled : (k : ℕ) (numbers : List ℕ) → k < length numbers → valueField k numbers ≡ decimal (getD numbers k 0)
 filled k [] h = absurd (let y : ⊥ = omega arith in y)
 filled zero (v ∷ numbers) h = refl

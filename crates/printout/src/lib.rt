@@ -32,9 +32,10 @@ pub struct Row {
     pub values: [u64; 4],
 }
 
+// No row is longer.
 pub const LONGEST_ROW: usize = 159;
 
-pub const HEADING_LENGTH: usize = 40;
+const HEADING_LENGTH: usize = 40;
 
 // The room from `at` on.
 fn room(lent: usize, at: usize) -> usize

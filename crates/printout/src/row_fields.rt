@@ -1,4 +1,4 @@
-// A row, field by field.
+// A row, field by field. A field is put with the comma before it.
 ghost use mathlib.Core.List.{_++_};
 ghost use Prim.Native.Nat.{_+_, _≤_};
 ghost use lib.ListN.{length};
@@ -69,6 +69,7 @@ fn put_open(open: Open, out: &mut [u8], at: usize) -> usize
     }
 }
 
+// A whole row, from its number to the end of its line.
 pub(crate) fn put_fields(row: Row, out: &mut [u8], at: usize) -> usize
     requires { ⌜ at + length (rowOf row) ≤ length (now out) ⌝ }
     ensures { λ r. ⌜ Put (now (out .entry)) at (rowOf row) (now (out .exit)) r ⌝ }

@@ -41,6 +41,7 @@ pub fn at_most_four(w: usize) -> usize
     if w < 4 { w } else { 4 }
 }
 
+// The first `count` values; 0s where one of them is not in form.
 fn read_values(bytes: &[u8], count: usize) -> ValuesRead
     requires { ⌜ count ≤ 4 ⌝ }
     ensures { λ r. ⌜ r ≡ valuesRead (now (bytes .entry)) count ⌝ }
@@ -73,6 +74,7 @@ fn refused(why: Refusal) -> ScheduleRead
     }
 }
 
+// What an act asks of a process and a variable.
 fn entry_of(act: Act, process: usize, variable: usize) -> Entry
     ensures { λ r. ⌜ r ≡ entryOf act process variable ⌝ }
 {
@@ -93,6 +95,7 @@ fn entry_of(act: Act, process: usize, variable: usize) -> Entry
     }
 }
 
+// A step, which has no variable and no values.
 fn read_step(bytes: &[u8], process: usize) -> ScheduleRead
     ensures { λ r. ⌜ r ≡ stepOf (now (bytes .entry)) process ⌝ }
 {

@@ -7,6 +7,7 @@ ghost use Rattle.writing.specs.Line.{after};
 ghost use Rattle.writing.specs.Put.{Put};
 use super::bytes::put;
 
+// The number of digits: one, and one more for each time that a tenth is left.
 fn digit_count(x: u64) -> usize
     ensures { λ r. ⌜ r ≡ length (decimal x) ⌝ }
 {
@@ -23,7 +24,7 @@ fn digit(d: u64) -> u8
     requires { ⌜ d < 10 ⌝ }
     ensures { λ r. ⌜ r ≡ 48 + d ⌝ }
 {
-    48 + d as u8
+    b'0' + d as u8
 }
 
 // The digits are put from the last to the first.

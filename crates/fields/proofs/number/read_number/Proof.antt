@@ -30,15 +30,18 @@ unfolding numberOf numberCase
 returns-3 c =
     let digits = c .before .before in
     let zero = digits .before .before in
-    c .value-of .ensures
-    ∙ simp (ne-eqb _ _ (zero .before .if1 .left), sym (zero .zero-leads .ensures) ∙ digits .before .if2 .left, sym (digits .are-digits .ensures) ∙ c .before .if3 .taken)
+    let no-zero = sym (zero .zero-leads .ensures) ∙ digits .before .if2 .left in
+    let all-digits = sym (digits .are-digits .ensures) ∙ c .before .if3 .taken in
+    c .value-of .ensures ∙ simp (ne-eqb _ _ (zero .before .if1 .left), no-zero, all-digits)
 
 returns-4 : tie.Need-returns-4
 unfolding numberOf numberCase
 returns-4 c =
     let digits = c .before in
     let zero = digits .before .before in
-    simp (ne-eqb _ _ (zero .before .if1 .left), sym (zero .zero-leads .ensures) ∙ digits .before .if2 .left, sym (digits .are-digits .ensures) ∙ c .if3 .left)
+    let no-zero = sym (zero .zero-leads .ensures) ∙ digits .before .if2 .left in
+    let other = sym (digits .are-digits .ensures) ∙ c .if3 .left in
+    simp (ne-eqb _ _ (zero .before .if1 .left), no-zero, other)
 
 pub read-number-spec : {M : Type 1} → statement M
 read-number-spec =

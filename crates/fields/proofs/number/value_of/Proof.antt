@@ -10,7 +10,11 @@ use Rattle.fields.proofs.number.value_of.Statement.{statement}
 use Rattle.fields.proofs.number.value_of.Tie as tie
 
 abbrev Inv-loop : tie.InvT-loop
-Inv-loop digits i₀ value₀ i value = (i ≤ length digits) × (value < 2 ^ 64) × (allDigits (drop i digits) ≡ true) × (valueFrom value (drop i digits) ≡ valueFrom 0 digits)
+Inv-loop digits i₀ value₀ i value =
+    (i ≤ length digits)
+    × (value < 2 ^ 64)
+    × (allDigits (drop i digits) ≡ true)
+    × (valueFrom value (drop i digits) ≡ valueFrom 0 digits)
 
 abbrev μ-loop : tie.MeasureT-loop
 μ-loop digits i₀ value₀ i value = length digits - i

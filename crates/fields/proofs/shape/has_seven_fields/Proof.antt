@@ -11,7 +11,11 @@ use Rattle.fields.proofs.shape.has_seven_fields.Statement.{statement}
 use Rattle.fields.proofs.shape.has_seven_fields.Tie as tie
 
 abbrev Inv-loop : tie.InvT-loop
-Inv-loop inside found₀ i₀ found i = (i ≤ length inside) × (found ≤ i) × (noStray (drop i inside) ≡ noStray inside) × (found + commas (drop i inside) ≡ commas inside)
+Inv-loop inside found₀ i₀ found i =
+    (i ≤ length inside)
+    × (found ≤ i)
+    × (noStray (drop i inside) ≡ noStray inside)
+    × (found + commas (drop i inside) ≡ commas inside)
 
 abbrev μ-loop : tie.MeasureT-loop
 μ-loop inside found₀ i₀ found i = length inside - i
