@@ -9,8 +9,8 @@ use Rattle.rules.specs.declared.Answer.the-variants.{Begun, Busy, Value, Witnes
 use Rattle.record.specs.declared.Act.{Act}
 use Rattle.record.specs.declared.Act.the-variants.{Load, Validate, Store, Step}
 use Rattle.rules.specs.Text.{ascii}
-use Rattle.printout.specs.Text.{line}
-use Rattle.record.specs.Decimal.{decimalIn}
+use Rattle.writing.specs.Line.{line}
+use Rattle.fields.specs.Decimal.{decimalIn}
 use Rattle.printout.specs.Row.{heading, rowOf}
 use Rattle.printout.specs.Writing.{longestRow}
 use Rattle.printout.specs.declared.Row.{Row}
@@ -30,49 +30,20 @@ printed n p act answer count = rowOf (rowOn n (Process p act) answer (Count coun
 heading-line : heading ≡ line (ascii "no") (ascii "process" ∷ ascii "act" ∷ ascii "answer" ∷ ascii "open" ∷ ascii "v0" ∷ ascii "v1" ∷ ascii "v2" ∷ ascii "v3" ∷ [])
 heading-line = refl
 
-row-1 : printed 1 0 Load Begun 0 ≡ ascii "1,0,LL,begun,0,,,,\r\n"
+-- the eleven rows of its listing
+listing-rows : (printed 1 0 Load Begun 0 ≡ ascii "1,0,LL,begun,0,,,,\r\n")
+    × (printed 2 0 Step Value 1 ≡ ascii "2,0,step,value,1,0,,,\r\n")
+    × (printed 3 1 Load Begun 0 ≡ ascii "3,1,LL,begun,0,,,,\r\n")
+    × (printed 4 1 Step Value 1 ≡ ascii "4,1,step,value,1,0,,,\r\n")
+    × (printed 5 0 Store Begun 1 ≡ ascii "5,0,SC,begun,1,,,,\r\n")
+    × (printed 6 0 Step Yes 0 ≡ ascii "6,0,step,yes,0,,,,\r\n")
+    × (printed 7 1 Validate Begun 1 ≡ ascii "7,1,VL,begun,1,,,,\r\n")
+    × (printed 8 1 Step No 1 ≡ ascii "8,1,step,no,1,,,,\r\n")
+    × (printed 9 1 Store Begun 1 ≡ ascii "9,1,SC,begun,1,,,,\r\n")
+    × (printed 10 1 Step No 0 ≡ ascii "10,1,step,no,0,,,,\r\n")
+    × (printed 11 1 Store (Refused NoOpenSequence) 0 ≡ ascii "11,1,SC,refused,0,7,,,\r\n")
 unfolding rowOf decimalIn
-row-1 = refl
-
-row-2 : printed 2 0 Step Value 1 ≡ ascii "2,0,step,value,1,0,,,\r\n"
-unfolding rowOf decimalIn
-row-2 = refl
-
-row-3 : printed 3 1 Load Begun 0 ≡ ascii "3,1,LL,begun,0,,,,\r\n"
-unfolding rowOf decimalIn
-row-3 = refl
-
-row-4 : printed 4 1 Step Value 1 ≡ ascii "4,1,step,value,1,0,,,\r\n"
-unfolding rowOf decimalIn
-row-4 = refl
-
-row-5 : printed 5 0 Store Begun 1 ≡ ascii "5,0,SC,begun,1,,,,\r\n"
-unfolding rowOf decimalIn
-row-5 = refl
-
-row-6 : printed 6 0 Step Yes 0 ≡ ascii "6,0,step,yes,0,,,,\r\n"
-unfolding rowOf decimalIn
-row-6 = refl
-
-row-7 : printed 7 1 Validate Begun 1 ≡ ascii "7,1,VL,begun,1,,,,\r\n"
-unfolding rowOf decimalIn
-row-7 = refl
-
-row-8 : printed 8 1 Step No 1 ≡ ascii "8,1,step,no,1,,,,\r\n"
-unfolding rowOf decimalIn
-row-8 = refl
-
-row-9 : printed 9 1 Store Begun 1 ≡ ascii "9,1,SC,begun,1,,,,\r\n"
-unfolding rowOf decimalIn
-row-9 = refl
-
-row-10 : printed 10 1 Step No 0 ≡ ascii "10,1,step,no,0,,,,\r\n"
-unfolding rowOf decimalIn
-row-10 = refl
-
-row-11 : printed 11 1 Store (Refused NoOpenSequence) 0 ≡ ascii "11,1,SC,refused,0,7,,,\r\n"
-unfolding rowOf decimalIn
-row-11 = refl
+listing-rows = (refl, refl, refl, refl, refl, refl, refl, refl, refl, refl, refl)
 
 -- a refused set-up, and the record after the 1,000,000th
 set-up-row : rowOf (rowOn 0 SetUp (Refused SettingOutsideSizes) Blank) ≡ ascii "0,,setup,refused,,1,,,\r\n"

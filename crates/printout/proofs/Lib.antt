@@ -1,7 +1,4 @@
-pub mod Puts
-pub mod Decimals
-pub mod Digits
 pub mod Rows
 pub mod Longest
-pub mod Writes
+pub mod Written
 pub mod Cases

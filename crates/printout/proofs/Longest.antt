@@ -8,7 +8,7 @@ use Rattle.rules.specs.declared.Answer.{Answer}
 use Rattle.rules.specs.declared.Answer.the-variants.{Begun, Busy, Value, Witness, Yes, No, Refused}
 use Rattle.record.specs.declared.Act.{Act}
 use Rattle.record.specs.declared.Act.the-variants.{Load, Validate, Store, Step}
-use Rattle.printout.specs.Text.{after, rest}
+use Rattle.writing.specs.Line.{after, rest}
 use Rattle.record.specs.Words.{actWord}
 use Rattle.printout.specs.Row.{processField, actField, openField, valueField, valueFields, rowOf}
 use Rattle.rules.specs.Answers.{answerWord, numbersOf}
@@ -18,7 +18,7 @@ use Rattle.printout.specs.declared.Who.{Who}
 use Rattle.printout.specs.declared.Who.the-variants.{Nobody, SetUp, Process}
 use Rattle.printout.specs.declared.Open.{Open}
 use Rattle.printout.specs.declared.Open.the-variants.{Blank, Count}
-use Rattle.record.proofs.Decimals.{short}
+use Rattle.fields.proofs.Decimals.{short}
 use Rattle.printout.proofs.Rows.{length-values, length-row}
 
 act-at-most : (act : Act) → length (actWord act) ≤ 4

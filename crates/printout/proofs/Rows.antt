@@ -8,13 +8,14 @@ use lib.Dec.{leb}
 use lib.ListN.{length, getD, take, length-append}
 use lib.Seq.{take-all}
 use borrow.Author.Tests.{leb-true, leb-false}
-use Rattle.record.specs.Decimal.{decimal}
+use Rattle.fields.specs.Decimal.{decimal}
 use Rattle.rules.specs.Text.{ascii}
-use Rattle.printout.specs.Text.{after, rest}
+use Rattle.writing.specs.Line.{after, rest}
 use Rattle.printout.specs.Row.{processField, actField, openField, valueField, valueFields, rowOf}
 use Rattle.rules.specs.Answers.{answerWord, numbersOf}
 use Rattle.printout.specs.declared.Row.{Row}
 
+-- a value field holds its number where there is one, and is blank where not
 pub filled : (k : ℕ) (numbers : List ℕ) → k < length numbers → valueField k numbers ≡ decimal (getD numbers k 0)
 filled k [] h = absurd (let y : ⊥ = omega arith in y)
 filled zero (v ∷ numbers) h = refl

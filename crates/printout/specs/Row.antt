@@ -3,9 +3,9 @@ use mathlib.Core.List.{List, [], _∷_}
 use Prim.Native.Nat.{ℕ, zero, suc}
 use Rattle.rules.specs.Answers.{answerWord, numbersOf}
 use Rattle.rules.specs.Text.{ascii}
-use Rattle.record.specs.Decimal.{decimal}
+use Rattle.fields.specs.Decimal.{decimal}
 use Rattle.record.specs.Words.{actWord}
-use Rattle.printout.specs.Text.{line}
+use Rattle.writing.specs.Line.{line}
 use Rattle.printout.specs.declared.Row.{Row}
 use Rattle.printout.specs.declared.Who.{Who}
 use Rattle.printout.specs.declared.Who.the-variants.{Nobody, SetUp, Process}

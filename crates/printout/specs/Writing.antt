@@ -1,5 +1,4 @@
 -- What the writers leave in the lent bytes, and the place after what they wrote.
-use mathlib.Core.Path.{_≡_}
 use mathlib.Core.Bool.{cond}
 use mathlib.Core.List.{List}
 use Prim.Native.Nat.{ℕ, _+_, _-_}
@@ -26,8 +25,3 @@ putRow row = written longestRow (rowOf row)
 
 abbrev pub putHeading : List ℕ → ℕ → Written
 putHeading = written (length heading) heading
-
--- a writer's own account: bytes from `at` on, and the place after them
-pub record Put (before : List ℕ) (at : ℕ) (bytes after : List ℕ) (next : ℕ) : Type 0 where
-  pub list : after ≡ sets before at bytes
-  pub place : next ≡ at + length bytes

@@ -1,10 +1,3 @@
-pub mod Tests
-pub mod Splits
-pub mod Numbers
-pub mod Decimals
-pub mod RoundTrip
 pub mod SameBytes
-pub mod BlankFields
 pub mod Values
-pub mod Laws
 pub mod Cases

@@ -8,14 +8,14 @@ use lib.Dec.{eqb}
 use lib.ListN.{length, drop, getD, drop-of-length-le}
 use borrow.Author.Tests.{eq-eqb, ne-eqb, eqb-true}
 use Rattle.record.specs.Words.{same}
-use Rattle.record.proofs.Tests.{and-left, and-right, and-true, and-false-right}
-use Rattle.record.proofs.Splits.{drop-step}
+use Rattle.rules.proofs.Tests.{and-left, and-right, and-both, and-no}
+use Rattle.fields.proofs.Splits.{drop-step}
 
 -- the test holds of equal lists, and of no others
 pub same-refl : (s : List ℕ) → same s s ≡ true
 unfolding same
 same-refl [] = refl
-same-refl (x ∷ xs) = and-true (eqb x x) (same xs xs) (eq-eqb x x refl) (same-refl xs)
+same-refl (x ∷ xs) = and-both (eqb x x) (same xs xs) (eq-eqb x x refl) (same-refl xs)
 
 pub same-eq : (s t : List ℕ) → same s t ≡ true → s ≡ t
 unfolding same
@@ -33,7 +33,7 @@ unfolding same
 same-lengths [] [] n = absurd (n refl)
 same-lengths [] (y ∷ ys) n = refl
 same-lengths (x ∷ xs) [] n = refl
-same-lengths (x ∷ xs) (y ∷ ys) n = and-false-right (eqb x y) (same xs ys) (same-lengths xs ys (λ e. n (ap suc e)))
+same-lengths (x ∷ xs) (y ∷ ys) n = and-no (eqb x y) (same xs ys) (same-lengths xs ys (λ e. n (ap suc e)))
 
 module _ (s t : List ℕ) (i : ℕ) (hs : i < length s) (ht : i < length t) where
   same-step : same (drop i s) (drop i t) ≡ eqb (getD s i 0) (getD t i 0) && same (drop (i + 1) s) (drop (i + 1) t)

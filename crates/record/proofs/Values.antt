@@ -8,12 +8,13 @@ use native.Mathlib.Omega.{arith}
 use lib.Dec.{leb}
 use lib.ListN.{set}
 use borrow.Author.Tests.{leb-true, leb-false}
-use Rattle.record.specs.Fields.{fieldOf}
-use Rattle.record.specs.Number.{numberOf}
-use Rattle.record.specs.Schedule.{noValues, valuesInForm, valuesOf, valuesRead}
-use Rattle.record.specs.declared.schedule.ValuesRead.{ValuesRead}
-use Rattle.record.specs.declared.number.Number.the-variants.{Value, NotInForm}
-use Rattle.record.proofs.Tests.{and-true, and-false-left, and-false-right}
+use Rattle.fields.specs.Fields.{fieldOf}
+use Rattle.fields.specs.Number.{numberOf}
+use Rattle.rules.specs.Processes.{noValues}
+use Rattle.record.specs.Entries.{valuesInForm, valuesOf, valuesRead}
+use Rattle.record.specs.declared.entries.ValuesRead.{ValuesRead}
+use Rattle.fields.specs.declared.number.Number.the-variants.{Value, NotInForm}
+use Rattle.rules.proofs.Tests.{and-both, and-no}
 
 module _ (s : List ℕ) (i : ℕ) where
   -- one value more
@@ -23,12 +24,12 @@ module _ (s : List ℕ) (i : ℕ) where
 
   pub form-more : (v : ℕ) → numberOf (fieldOf s (3 + i)) ≡ Value v → valuesInForm s i ≡ true → valuesInForm s (i + 1) ≡ true
   unfolding valuesInForm
-  form-more v e so-far = rw (add-one i, e) (and-true (valuesInForm s i) true so-far refl)
+  form-more v e so-far = rw (add-one i, e) (and-both (valuesInForm s i) true so-far refl)
 
   -- a value that is not in form
   pub form-none : numberOf (fieldOf s (3 + i)) ≡ NotInForm → valuesInForm s (i + 1) ≡ false
   unfolding valuesInForm
-  form-none e = rw (add-one i, e) (and-false-right (valuesInForm s i) false refl)
+  form-none e = rw (add-one i, e) (and-no (valuesInForm s i) false refl)
 
 -- stays so, however many follow
 pub form-later : (s : List ℕ) (i count : ℕ) → i ≤ count → valuesInForm s i ≡ false → valuesInForm s count ≡ false
@@ -37,7 +38,7 @@ form-later s i zero h e = let q : i ≡ 0 = omega arith in ap (valuesInForm s) (
 form-later s i (suc count) h e = by-test (leb i count) refl (λ l. form-later s i count l e)
   where
     by-test : (b : Bool) → leb i count ≡ b → (i ≤ count → valuesInForm s count ≡ false) → valuesInForm s (suc count) ≡ false
-    by-test true t before = and-false-left _ _ (before (leb-true i count t))
+    by-test true t before = rw (before (leb-true i count t))
     by-test false t before = let q : i ≡ suc count = omega (arith, leb-false i count t) in ap (valuesInForm s) (sym q) ∙ e
 
 -- what the values read say

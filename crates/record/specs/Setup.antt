@@ -2,12 +2,12 @@
 use Prim.Native.Nat.{ℕ}
 use mathlib.Core.Bool.{Bool, cond}
 use mathlib.Core.List.{List}
-use Rattle.record.specs.Form.{inForm}
-use Rattle.record.specs.Fields.{fieldOf}
-use Rattle.record.specs.Number.{numberOf, withNumber}
+use Rattle.fields.specs.Form.{inForm}
+use Rattle.fields.specs.Fields.{fieldOf}
+use Rattle.fields.specs.Number.{numberOf, withNumber}
 use Rattle.record.specs.Words.{kindOf, withKind}
-use Rattle.record.specs.Blanks.{blankFrom}
-use Rattle.record.specs.declared.number.Number.{Number}
+use Rattle.fields.specs.Blanks.{blankFrom}
+use Rattle.fields.specs.declared.number.Number.{Number}
 use Rattle.record.specs.declared.words.KindRead.{KindRead}
 use Rattle.record.specs.declared.setup.SettingsRead.{SettingsRead}
 use Rattle.record.specs.declared.setup.SettingsRead.the-variants.{Read, Refused}

@@ -1,13 +1,13 @@
 // The first record of a schedule: N, kind, T, b, W, two blanks.
 ghost use mathlib.Core.Path.{_≡_};
 ghost use Rattle.record.specs.Setup.{settingsFrom, settingsOf};
-use super::form::blank_from;
-use super::form::field;
-use super::form::in_form;
-use super::number::Number;
-use super::number::number_at;
 use super::words::KindRead;
 use super::words::read_kind;
+use fields::Number;
+use fields::blank_from;
+use fields::field;
+use fields::in_form;
+use fields::number_at;
 use rules::Settings;
 use word::Layout;
 use word::Refusal;

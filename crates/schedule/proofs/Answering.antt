@@ -9,7 +9,7 @@ use lib.Seq.{sets}
 use Rattle.rules.specs.declared.Moved.{Moved}
 use Rattle.rules.specs.declared.Process.{Process}
 use Rattle.rules.specs.declared.Settings.{Settings}
-use Rattle.record.specs.declared.schedule.Entry.{Entry}
+use Rattle.record.specs.declared.entries.Entry.{Entry}
 use Rattle.printout.specs.Row.{rowOf}
 use Rattle.printout.specs.Writing.{Written, longestRow, putRow}
 use Rattle.printout.specs.declared.Row.{Row}

@@ -21,8 +21,8 @@ use Rattle.rules.specs.declared.Settings.{Settings}
 use Rattle.rules.proofs.GoodForm.Runs.{begin-in-form, step-in-form}
 use Rattle.rules.proofs.Changes.Leaves.{begin-settings, step-settings, step-length}
 use Rattle.record.specs.declared.Act.{Act}
-use Rattle.record.specs.declared.schedule.Entry.{Entry}
-use Rattle.record.specs.declared.schedule.Entry.the-variants.{Begin, Step, Refused}
+use Rattle.record.specs.declared.entries.Entry.{Entry}
+use Rattle.record.specs.declared.entries.Entry.the-variants.{Begin, Step, Refused}
 use Rattle.printout.specs.Row.{rowOf}
 use Rattle.printout.specs.declared.Who.the-variants.{Process as ProcessAt}
 use Rattle.printout.specs.declared.Open.{Open}

@@ -9,10 +9,10 @@ use borrow.Author.Tests.{ltb-true, ltb-false, lt-leb, le-leb, lt-ltb, le-ltb}
 use lib.Dec.{eqb, leb, ltb}
 use lib.ListN.{length, getD, take, length-append, length-set, List·getD-append}
 use lib.Seq.{take-append-le, take-all, take-suc-set, getD-append-seam, length-take-le}
-use Rattle.record.specs.Form.{closed, inForm}
-use Rattle.record.specs.Schedule.{refusedRead, scheduleOf}
+use Rattle.fields.specs.Form.{closed, inForm}
+use Rattle.record.specs.Entries.{refusedRead, scheduleOf}
 use Rattle.record.specs.Setup.{settingsOf}
-use Rattle.record.specs.declared.schedule.ScheduleRead.{ScheduleRead}
+use Rattle.record.specs.declared.entries.ScheduleRead.{ScheduleRead}
 use Rattle.record.specs.declared.setup.SettingsRead.the-variants.{Refused}
 use Rattle.word.specs.declared.Refusal.the-variants.{RecordNotInForm}
 use Rattle.schedule.specs.Gathering.{Held, lineLength, bytesOf, nothingHeld, put, closes}

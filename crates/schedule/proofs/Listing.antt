@@ -7,14 +7,14 @@ use Rattle.rules.specs.Processes as processes
 use Rattle.rules.specs.Refusals as refusals
 use Rattle.rules.specs.Sizes as sizes
 use Rattle.rules.specs.Steps as steps
-use Rattle.record.specs.Form as record-form
-use Rattle.record.specs.Fields as fields
-use Rattle.record.specs.Number as number
-use Rattle.record.specs.Blanks as blanks
+use Rattle.fields.specs.Form as record-form
+use Rattle.fields.specs.Fields as fields
+use Rattle.fields.specs.Number as number
+use Rattle.fields.specs.Blanks as blanks
 use Rattle.record.specs.Words as record-words
 use Rattle.record.specs.Setup as setup
-use Rattle.record.specs.Schedule as schedule
-use Rattle.record.specs.Decimal as decimals
+use Rattle.record.specs.Entries as schedule
+use Rattle.fields.specs.Decimal as decimals
 use Rattle.printout.specs.Row as row
 use Rattle.schedule.specs.Listing.{Listing}
 use Rattle.schedule.specs.Records.{recordsFrom}

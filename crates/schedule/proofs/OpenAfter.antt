@@ -17,8 +17,8 @@ use Rattle.rules.specs.declared.Settings.{Settings}
 use Rattle.rules.proofs.GoodForm.Kept.{kept}
 use Rattle.rules.specs.InForm.{Sound, Clean}
 use Rattle.calls.specs.OneProcess.{beginProcessBy, beginProcessRule}
-use Rattle.record.specs.declared.schedule.Entry.{Entry}
-use Rattle.record.specs.declared.schedule.Entry.the-variants.{Begin, Step, Refused}
+use Rattle.record.specs.declared.entries.Entry.{Entry}
+use Rattle.record.specs.declared.entries.Entry.the-variants.{Begin, Step, Refused}
 use Rattle.word.specs.declared.Refusal.the-variants.{NoSuchProcess}
 use Rattle.schedule.specs.Moves.{stays, begins, steps, moveOf}
 

@@ -14,11 +14,11 @@ use Rattle.rules.specs.Entry.{setUpRule}
 use Rattle.rules.specs.declared.Board.{Board}
 use Rattle.rules.specs.declared.Start.{Start}
 use Rattle.rules.specs.declared.Start.the-variants.{Ready, Refused as StartRefused}
-use Rattle.record.specs.Form.{closed}
-use Rattle.record.specs.Schedule.{scheduleOf}
+use Rattle.fields.specs.Form.{closed}
+use Rattle.record.specs.Entries.{scheduleOf}
 use Rattle.record.specs.Setup.{settingsOf}
-use Rattle.record.specs.declared.schedule.Entry.{Entry}
-use Rattle.record.specs.declared.schedule.Entry.the-variants.{Begin, Step, Refused}
+use Rattle.record.specs.declared.entries.Entry.{Entry}
+use Rattle.record.specs.declared.entries.Entry.the-variants.{Begin, Step, Refused}
 use Rattle.record.specs.declared.setup.SettingsRead.{SettingsRead}
 use Rattle.record.specs.declared.setup.SettingsRead.the-variants.{Read, Refused as SettingsRefused}
 use Rattle.printout.proofs.Longest.{row-at-most}

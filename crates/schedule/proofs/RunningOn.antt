@@ -14,8 +14,8 @@ use Rattle.rules.specs.declared.Process.{Process}
 use Rattle.rules.specs.declared.Settings.{Settings}
 use Rattle.rules.proofs.GoodForm.Keeps.{sound-process, clean-words}
 use Rattle.rules.specs.InForm.{Sound, Clean}
-use Rattle.record.specs.Schedule.{scheduleOf}
-use Rattle.record.specs.declared.schedule.ScheduleRead.{ScheduleRead}
+use Rattle.record.specs.Entries.{scheduleOf}
+use Rattle.record.specs.declared.entries.ScheduleRead.{ScheduleRead}
 use Rattle.printout.specs.Writing.{longestRow}
 use Rattle.printout.specs.declared.Row.{Row}
 use Rattle.schedule.specs.Answering.{Answers, Tells, overOf, Ends}

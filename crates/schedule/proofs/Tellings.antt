@@ -25,10 +25,10 @@ use Rattle.rules.proofs.Refusals.Checked.{stands}
 use Rattle.rules.proofs.GoodForm.Fresh.{set-up-accepted, fresh-in-form, fresh-length}
 use Rattle.rules.proofs.Refusals.Refusing.{set-up-refused}
 use Rattle.rules.proofs.Sizes.Sized.{sized}
-use Rattle.record.specs.Schedule.{scheduleOf}
+use Rattle.record.specs.Entries.{scheduleOf}
 use Rattle.record.specs.Setup.{settingsOf}
-use Rattle.record.specs.declared.schedule.Entry.{Entry}
-use Rattle.record.specs.declared.schedule.ScheduleRead.{ScheduleRead}
+use Rattle.record.specs.declared.entries.Entry.{Entry}
+use Rattle.record.specs.declared.entries.ScheduleRead.{ScheduleRead}
 use Rattle.record.specs.declared.setup.SettingsRead.{SettingsRead}
 use Rattle.record.specs.declared.setup.SettingsRead.the-variants.{Read, Refused as SettingsRefused}
 use Rattle.printout.specs.Row.{rowOf}

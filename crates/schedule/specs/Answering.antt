@@ -7,7 +7,7 @@ use lib.ListN.{length}
 use lib.Seq.{sets}
 use Rattle.rules.specs.declared.Process.{Process}
 use Rattle.rules.specs.declared.Settings.{Settings}
-use Rattle.record.specs.declared.schedule.Entry.{Entry}
+use Rattle.record.specs.declared.entries.Entry.{Entry}
 use Rattle.printout.specs.Row.{rowOf}
 use Rattle.schedule.specs.Feeding.{sessionOf}
 use Rattle.schedule.specs.Moves.{moveOf, rowBy}

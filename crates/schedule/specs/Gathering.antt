@@ -5,7 +5,7 @@ use mathlib.Core.Bool.{Bool, true, false, cond, _&&_}
 use mathlib.Core.List.{List, [], _∷_}
 use lib.Dec.{eqb, ltb}
 use lib.ListN.{set, take}
-use Rattle.record.specs.Bytes.{carriageReturn, lineFeed}
+use Rattle.fields.specs.Bytes.{carriageReturn, lineFeed}
 
 abbrev pub lineLength : ℕ
 lineLength = 513

@@ -16,8 +16,8 @@ use Rattle.rules.specs.declared.Settings.{Settings}
 use Rattle.calls.specs.OneProcess.{beginProcessRule}
 use Rattle.record.specs.declared.Act.{Act}
 use Rattle.record.specs.declared.Act.the-variants.{Step as TakesStep}
-use Rattle.record.specs.declared.schedule.Entry.{Entry}
-use Rattle.record.specs.declared.schedule.Entry.the-variants.{Begin, Step, Refused}
+use Rattle.record.specs.declared.entries.Entry.{Entry}
+use Rattle.record.specs.declared.entries.Entry.the-variants.{Begin, Step, Refused}
 use Rattle.printout.specs.declared.Row.{Row}
 use Rattle.printout.specs.declared.Who.the-variants.{Process as ProcessAt}
 use Rattle.printout.specs.declared.Open.{Open}

@@ -4,7 +4,7 @@ use mathlib.Core.Bool.{cond}
 use mathlib.Core.List.{List, [], _∷_, _++_}
 use lib.Dec.{eqb}
 use lib.ListN.{length}
-use Rattle.record.specs.Form.{closed}
+use Rattle.fields.specs.Form.{closed}
 
 -- the records of an input whose first record has begun with the bytes of `part`, each with its closing pair where it has one
 unfoldable pub recordsFrom : List ℕ → List ℕ → List (List ℕ)

@@ -18,11 +18,11 @@ use Rattle.rules.specs.declared.OpenCount.the-variants.{Open, Refused as CountR
 use Rattle.rules.specs.declared.Start.{Start}
 use Rattle.rules.specs.declared.Start.the-variants.{Ready, Refused as StartRefused}
 use Rattle.record.specs.Setup.{settingsOf}
-use Rattle.record.specs.Schedule.{scheduleOf}
+use Rattle.record.specs.Entries.{scheduleOf}
 use Rattle.record.specs.declared.Act.{Act}
 use Rattle.record.specs.declared.Act.the-variants.{Load as LL, Validate as VL, Store as SC, Step as TakesStep}
-use Rattle.record.specs.declared.schedule.Entry.{Entry}
-use Rattle.record.specs.declared.schedule.Entry.the-variants.{Begin, Step, Refused}
+use Rattle.record.specs.declared.entries.Entry.{Entry}
+use Rattle.record.specs.declared.entries.Entry.the-variants.{Begin, Step, Refused}
 use Rattle.record.specs.declared.setup.SettingsRead.{SettingsRead}
 use Rattle.record.specs.declared.setup.SettingsRead.the-variants.{Read, Refused as SettingsRefused}
 use Rattle.printout.specs.Row.{heading, rowOf}

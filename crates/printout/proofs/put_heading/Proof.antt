@@ -1,6 +1,6 @@
 -- `put_heading` writes the heading where there is room for it. Assumes nothing.
 use Rattle.printout.specs.Row.{heading}
-use Rattle.printout.proofs.Puts.{with-room, without-room}
+use Rattle.printout.proofs.Written.{with-room, without-room}
 use borrow.Author.Needs.{needs}
 use Rattle.printout.proofs.put_heading.Statement.{statement}
 use Rattle.printout.proofs.put_heading.Tie as tie

@@ -2,7 +2,7 @@
 use native.Mathlib.Omega.{arith}
 use Rattle.printout.specs.Row.{rowOf}
 use Rattle.printout.specs.Writing.{longestRow}
-use Rattle.printout.proofs.Puts.{with-room, without-room}
+use Rattle.printout.proofs.Written.{with-room, without-room}
 use Rattle.printout.proofs.Longest.{row-at-most}
 use borrow.Author.Needs.{needs}
 use Rattle.printout.proofs.put_row.Statement.{statement}

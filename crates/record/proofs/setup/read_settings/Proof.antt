@@ -46,7 +46,10 @@ returns-2 c =
     let n = kind .before .before in
     let formed = sym (n .before .before .in-form .ensures) ∙ not-false _ (n .before .if1 .left) in
     let kind-read = kind .read-kind .ensures ∙ ap kindOf (kind .before .field .ensures) in
-    rw (formed, ← n .number-at .ensures, ← kind-read, ← b .before .number-at2 .ensures, ← b .number-at3 .ensures, ← c .before .before .number-at4 .ensures, ← c .before .blank-from .ensures)
+    let t-read = b .before .number-at2 .ensures in
+    let b-read = b .number-at3 .ensures in
+    let w-read = c .before .before .number-at4 .ensures in
+    rw (formed, ← n .number-at .ensures, ← kind-read, ← t-read, ← b-read, ← w-read, ← c .before .blank-from .ensures)
     (c .settings-from .ensures)
 
 pub read-settings-spec : {M : Type 1} → statement M

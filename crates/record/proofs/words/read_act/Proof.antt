@@ -28,7 +28,8 @@ unfolding actOf
 returns-2 c =
     let second = c in
     let first = second .before .before .before in
-    rw (sym (first .before .is-word .ensures) ∙ first .if1 .left, sym (second .before .is-word2 .ensures) ∙ second .if2 .taken)
+    let not-first = sym (first .before .is-word .ensures) ∙ first .if1 .left in
+    rw (not-first, sym (second .before .is-word2 .ensures) ∙ second .if2 .taken)
 
 slice-aggregate-is-word-3 : tie.Need-slice-aggregate-is-word-3
 slice-aggregate-is-word-3 c = search needs
@@ -42,7 +43,9 @@ returns-3 c =
     let third = c in
     let second = third .before .before .before in
     let first = second .before .before .before in
-    rw (sym (first .before .is-word .ensures) ∙ first .if1 .left, sym (second .before .is-word2 .ensures) ∙ second .if2 .left, sym (third .before .is-word3 .ensures) ∙ third .if3 .taken)
+    let not-first = sym (first .before .is-word .ensures) ∙ first .if1 .left in
+    let not-second = sym (second .before .is-word2 .ensures) ∙ second .if2 .left in
+    rw (not-first, not-second, sym (third .before .is-word3 .ensures) ∙ third .if3 .taken)
 
 slice-aggregate-is-word-4 : tie.Need-slice-aggregate-is-word-4
 slice-aggregate-is-word-4 c = search needs
@@ -57,7 +60,10 @@ returns-4 c =
     let third = fourth .before .before .before in
     let second = third .before .before .before in
     let first = second .before .before .before in
-    rw (sym (first .before .is-word .ensures) ∙ first .if1 .left, sym (second .before .is-word2 .ensures) ∙ second .if2 .left, sym (third .before .is-word3 .ensures) ∙ third .if3 .left, sym (fourth .before .is-word4 .ensures) ∙ fourth .if4 .taken)
+    let not-first = sym (first .before .is-word .ensures) ∙ first .if1 .left in
+    let not-second = sym (second .before .is-word2 .ensures) ∙ second .if2 .left in
+    let not-third = sym (third .before .is-word3 .ensures) ∙ third .if3 .left in
+    rw (not-first, not-second, not-third, sym (fourth .before .is-word4 .ensures) ∙ fourth .if4 .taken)
 
 returns-5 : tie.Need-returns-5
 unfolding actOf
@@ -66,7 +72,11 @@ returns-5 c =
     let third = fourth .before .before .before in
     let second = third .before .before .before in
     let first = second .before .before .before in
-    rw (sym (first .before .is-word .ensures) ∙ first .if1 .left, sym (second .before .is-word2 .ensures) ∙ second .if2 .left, sym (third .before .is-word3 .ensures) ∙ third .if3 .left, sym (fourth .before .is-word4 .ensures) ∙ fourth .if4 .left)
+    let not-first = sym (first .before .is-word .ensures) ∙ first .if1 .left in
+    let not-second = sym (second .before .is-word2 .ensures) ∙ second .if2 .left in
+    let not-third = sym (third .before .is-word3 .ensures) ∙ third .if3 .left in
+    let not-fourth = sym (fourth .before .is-word4 .ensures) ∙ fourth .if4 .left in
+    rw (not-first, not-second, not-third, not-fourth)
 
 pub read-act-spec : {M : Type 1} → statement M
 read-act-spec =

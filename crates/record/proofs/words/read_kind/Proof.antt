@@ -28,14 +28,17 @@ unfolding kindOf
 returns-2 c =
     let second = c in
     let first = second .before .before .before in
-    rw (sym (first .before .is-word .ensures) ∙ first .if1 .left, sym (second .before .is-word2 .ensures) ∙ second .if2 .taken)
+    let not-first = sym (first .before .is-word .ensures) ∙ first .if1 .left in
+    rw (not-first, sym (second .before .is-word2 .ensures) ∙ second .if2 .taken)
 
 returns-3 : tie.Need-returns-3
 unfolding kindOf
 returns-3 c =
     let second = c in
     let first = second .before .before .before in
-    rw (sym (first .before .is-word .ensures) ∙ first .if1 .left, sym (second .before .is-word2 .ensures) ∙ second .if2 .left)
+    let not-first = sym (first .before .is-word .ensures) ∙ first .if1 .left in
+    let not-second = sym (second .before .is-word2 .ensures) ∙ second .if2 .left in
+    rw (not-first, not-second)
 
 pub read-kind-spec : {M : Type 1} → statement M
 read-kind-spec =

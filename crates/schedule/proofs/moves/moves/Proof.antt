@@ -1,7 +1,7 @@
 -- `moves` meets its contract: by cases of the entry. Assumes nothing.
 use mathlib.Core.Path.{sym, ap, _∙_}
 use Rattle.schedule.specs.Moves.{moveOf}
-use Rattle.record.specs.declared.schedule.Entry.{Entry}
+use Rattle.record.specs.declared.entries.Entry.{Entry}
 use Rattle.rules.specs.declared.Moved.{Moved}
 use borrow.Author.Needs.{needs}
 use Rattle.schedule.proofs.moves.moves.Statement.{statement}

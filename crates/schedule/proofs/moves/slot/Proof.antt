@@ -1,6 +1,6 @@
 -- `slot` meets its contract: by cases of the entry. Assumes nothing.
 use mathlib.Core.Path.{sym, ap, _∙_}
-use Rattle.record.specs.declared.schedule.Entry.{Entry}
+use Rattle.record.specs.declared.entries.Entry.{Entry}
 use Rattle.schedule.specs.Moves.{slotOf}
 use borrow.Author.Needs.{needs}
 use Rattle.schedule.proofs.moves.slot.Statement.{statement}

@@ -1,0 +1,42 @@
+-- Laws of decimal digits: their count, and how those of a number follow from those of its tenth. Assumes nothing.
+use Prim.Native.Nat.{ℕ, zero, suc, _+_, _-_, _*_, _<_, _≤_, _/_, _%_, _^_}
+use mathlib.Core.Path.{_≡_}
+use mathlib.Core.Bool.{Bool, true, false, cond}
+use mathlib.Core.List.{[], _∷_, _++_}
+use native.Mathlib.Omega.{arith}
+use native.Mathlib.Nat.{pow-suc}
+use lib.Dec.{ltb}
+use lib.ListN.{length, length-append}
+use borrow.Author.Tests.{le-ltb, lt-ltb}
+use Rattle.fields.specs.Decimal.{decimalIn}
+
+pub short : (room n : ℕ) → length (decimalIn room n) ≤ room
+unfolding decimalIn
+short zero n = omega arith
+short (suc room) n = by-test (ltb n 10) (short room (n / 10))
+  where
+    by-test : (b : Bool) → length (decimalIn room (n / 10)) ≤ room
+        → length (cond b ((48 + n) ∷ []) (decimalIn room (n / 10) ++ ((48 + n % 10) ∷ []))) ≤ suc room
+    by-test true h = omega arith
+    by-test false h = omega (arith, length-append (decimalIn room (n / 10)) ((48 + n % 10) ∷ []))
+
+-- a number of two digits or more
+pub decimal-long : (room n : ℕ) → 0 < room → 9 < n → decimalIn room n ≡ decimalIn (room - 1) (n / 10) ++ ((48 + n % 10) ∷ [])
+unfolding decimalIn
+decimal-long zero n p h = absurd (let y : ⊥ = omega arith in y)
+decimal-long (suc room) n p h = let e : suc room - 1 ≡ room = omega arith in rw e (simp (le-ltb n 10 h))
+
+-- a number of one digit
+pub decimal-short : (room n : ℕ) → 0 < room → n ≤ 9 → decimalIn room n ≡ (48 + n) ∷ []
+unfolding decimalIn
+decimal-short zero n p h = absurd (let y : ⊥ = omega arith in y)
+decimal-short (suc room) n p h = let k : n < 10 = omega arith in simp (lt-ltb n 10 k)
+
+-- a tenth has room in one digit fewer
+pub tenth : (room n : ℕ) → n < 10 ^ room → 9 < n → (1 < room) × (n / 10 < 10 ^ (room - 1))
+tenth zero n h g = absurd (let y : ⊥ = omega arith in y)
+tenth (suc zero) n h g = absurd (let y : ⊥ = omega arith in y)
+tenth (suc (suc room)) n h g =
+    let e : suc (suc room) - 1 ≡ suc room = omega arith in
+    let k : n < 10 ^ suc room * 10 = rw pow-suc at h in
+    (omega arith, rw e (omega arith))

@@ -1,0 +1,59 @@
+-- The fields of a record in form, joined by commas, are its body. Assumes nothing.
+use Prim.Native.Nat.{ℕ, zero, suc, _+_}
+use mathlib.Core.Path.{_≡_, refl, ap, sym, _∙_}
+use mathlib.Core.Bool.{Bool, true, false, cond, _&&_}
+use mathlib.Core.List.{List, [], _∷_, _++_}
+use native.Mathlib.Omega.{arith}
+use lib.Dec.{eqb, leb}
+use lib.ListN.{length}
+use borrow.Author.Tests.{eqb-true}
+use Rattle.fields.specs.Bytes.{comma}
+use Rattle.fields.specs.Form.{bodyOf, noStray, commas, inForm}
+use Rattle.fields.specs.Fields.{upToComma, pastComma, partOf, fieldOf}
+use Rattle.rules.proofs.Tests.{and-right}
+
+-- six commas part its seven fields
+in-form-commas : (s : List ℕ) → inForm s ≡ true → commas (bodyOf s) ≡ 6
+unfolding inForm
+in-form-commas s e =
+    let clean = and-right (leb (length s) 512) _ e in
+    let fields : commas (bodyOf s) + 1 ≡ 7 = eqb-true (commas (bodyOf s) + 1) 7 (and-right (noStray (bodyOf s)) _ clean) in
+    omega arith
+
+-- fields 0 to n with a comma between each two
+abbrev pub joined : (ℕ → List ℕ) → ℕ → List ℕ
+joined fields zero = fields 0
+joined fields (suc n) = fields 0 ++ (comma ∷ joined (λ k. fields (suc k)) n)
+
+no-comma : (s : List ℕ) → commas s ≡ 0 → upToComma s ≡ s
+unfolding commas upToComma
+no-comma [] e = refl
+no-comma (x ∷ xs) e = by-test (eqb x 44) e (no-comma xs)
+  where
+    by-test : (b : Bool) → cond b 1 0 + commas xs ≡ 0 → (commas xs ≡ 0 → upToComma xs ≡ xs) → cond b [] (x ∷ upToComma xs) ≡ x ∷ xs
+    by-test true q more = absurd (let y : ⊥ = omega arith in y)
+    by-test false q more = ap (λ l. x ∷ l) (more (omega arith))
+
+-- the first comma parts a list
+first-comma : (s : List ℕ) (n : ℕ) → commas s ≡ suc n → (upToComma s ++ (comma ∷ pastComma s) ≡ s) × (commas (pastComma s) ≡ n)
+unfolding commas upToComma pastComma
+first-comma [] n e = absurd (let y : ⊥ = omega arith in y)
+first-comma (x ∷ xs) n e = by-test (eqb x 44) refl e (first-comma xs n)
+  where
+    by-test : (b : Bool) → eqb x 44 ≡ b → cond b 1 0 + commas xs ≡ suc n
+        → (commas xs ≡ suc n → (upToComma xs ++ (comma ∷ pastComma xs) ≡ xs) × (commas (pastComma xs) ≡ n))
+        → (cond b [] (x ∷ upToComma xs) ++ (comma ∷ cond b xs (pastComma xs)) ≡ x ∷ xs) × (commas (cond b xs (pastComma xs)) ≡ n)
+    by-test true t q more = (ap (λ (y : ℕ). y ∷ xs) (sym (eqb-true x 44 t)), omega arith)
+    by-test false t q more = let r = more (omega arith) in (ap (λ l. x ∷ l) (r .0), r .1)
+
+joined-parts : (n : ℕ) (s : List ℕ) → commas s ≡ n → joined (partOf s) n ≡ s
+unfolding partOf
+joined-parts zero s e = no-comma s e
+joined-parts (suc n) s e =
+    let first = first-comma s n e in
+    ap (λ l. upToComma s ++ (comma ∷ l)) (joined-parts n (pastComma s) (first .1)) ∙ first .0
+
+-- a record in form has seven fields, and they make up its body
+pub seven-fields : (s : List ℕ) → inForm s ≡ true → joined (fieldOf s) 6 ≡ bodyOf s
+unfolding fieldOf
+seven-fields s e = joined-parts 6 (bodyOf s) (in-form-commas s e)

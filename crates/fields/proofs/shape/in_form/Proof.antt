@@ -1,0 +1,23 @@
+-- `in_form` meets its contract. Assumes nothing.
+use borrow.Author.Tests.{lt-leb, le-leb}
+use Rattle.fields.specs.Form.{inForm}
+use borrow.Author.Needs.{needs}
+use Rattle.fields.proofs.shape.in_form.Statement.{statement}
+use Rattle.fields.proofs.shape.in_form.Tie as tie
+
+returns : tie.Need-returns
+unfolding inForm
+returns c = simp (lt-leb _ _ (c .if1 .taken))
+
+body-requires : tie.Need-body-requires
+body-requires c κs = search needs
+
+has-seven-fields-requires : tie.Need-has-seven-fields-requires
+has-seven-fields-requires c κs = search needs
+
+returns-2 : tie.Need-returns-2
+unfolding inForm
+returns-2 c = simp (le-leb _ _ (c .before .before .if1 .left), c .has-seven-fields .ensures, c .before .body .ensures)
+
+pub in-form-spec : {M : Type 1} → statement M
+in-form-spec = tie.close (tie.spec returns body-requires has-seven-fields-requires returns-2)
