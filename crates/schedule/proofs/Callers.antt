@@ -12,12 +12,12 @@ use Rattle.printout.specs.Row.{heading}
 use Rattle.printout.specs.Writing.{Written, putHeading, longestRow}
 use Rattle.schedule.specs.Feeding.{Feeding, feeding, sessionOf, holding, telling, answered, gathering, takeIn, takeByte, isFull, sameStage, feedOf, finishIn, finishOf}
 use Rattle.schedule.specs.Gathering.{lineLength, bytesOf, put, closes}
-use Rattle.schedule.specs.Order.{Ready}
-use Rattle.schedule.specs.Run.{beginningRun, recordTold}
+use Rattle.schedule.specs.Ready.{Ready}
+use Rattle.answers.specs.Run.{beginningRun, recordTold}
 use Rattle.schedule.specs.WholeInput.{started}
 use Rattle.schedule.specs.declared.Session.{Session}
-use Rattle.schedule.specs.declared.Stage.{Stage}
-use Rattle.schedule.specs.declared.Stage.the-variants.{Waiting, Running, Over}
+use Rattle.answers.specs.declared.Stage.{Stage}
+use Rattle.answers.specs.declared.Stage.the-variants.{Waiting, Running, Over}
 use Rattle.schedule.proofs.FedOn.{still-waits, has-room}
 use Rattle.schedule.proofs.Owed.{told-short}
 

@@ -16,13 +16,13 @@ use Rattle.record.specs.Setup.{settingsOf}
 use Rattle.record.specs.declared.setup.SettingsRead.{SettingsRead}
 use Rattle.record.specs.declared.setup.SettingsRead.the-variants.{Read, Refused as SettingsRefused}
 use Rattle.printout.specs.Writing.{longestRow}
-use Rattle.schedule.specs.Answering.{Tells}
+use Rattle.schedule.specs.Telling.{Tells}
 use Rattle.schedule.specs.Feeding.{Feeding, runOf, feeding, telling, isFull, stageNumber, sameStage, feedOf}
 use Rattle.schedule.specs.Gathering.{Held, bytesOf, gatherOf}
-use Rattle.schedule.specs.Run.{Run, bySetUp, bySettings, setUpTold, recordTold}
+use Rattle.answers.specs.Run.{Run, bySetUp, bySettings, setUpTold, recordTold}
 use Rattle.schedule.specs.declared.Session.{Session}
-use Rattle.schedule.specs.declared.Stage.{Stage}
-use Rattle.schedule.specs.declared.Stage.the-variants.{Waiting, Running, Over}
+use Rattle.answers.specs.declared.Stage.{Stage}
+use Rattle.answers.specs.declared.Stage.the-variants.{Waiting, Running, Over}
 use Rattle.schedule.proofs.Feeding.{goesOn, afterGathering, Reads, waiting-reads, feed-gather}
 use Rattle.schedule.proofs.Tellings.{tells-feeding}
 

@@ -7,9 +7,9 @@ use mathlib.Core.List.{List, [], _∷_}
 use borrow.Author.Tests.{eq-eqb}
 use Rattle.schedule.specs.Feeding.{Feeding, holding, answered, gathering, takeIn, takeByte, isFull, stageNumber, sameStage, feedOf}
 use Rattle.schedule.specs.Gathering.{Gathered, put, closes, gatherOf}
-use Rattle.schedule.specs.Run.{Run}
-use Rattle.schedule.specs.declared.Stage.{Stage}
-use Rattle.schedule.specs.declared.Stage.the-variants.{Waiting, Running, Over}
+use Rattle.answers.specs.Run.{Run}
+use Rattle.answers.specs.declared.Stage.{Stage}
+use Rattle.answers.specs.declared.Stage.the-variants.{Waiting, Running, Over}
 
 -- feeding goes on with the bytes that are left, unless the stage has changed
 abbrev pub goesOn : Run → Feeding → List ℕ → Feeding × List ℕ

@@ -5,9 +5,9 @@ use mathlib.Core.Bool.{Bool}
 use mathlib.Core.List.{List}
 use borrow.Author.Tests.{eq-eqb, ne-eqb}
 use lib.ListN.{take}
-use Rattle.schedule.specs.Answering.{Tells}
+use Rattle.schedule.specs.Telling.{Tells}
 use Rattle.schedule.specs.Feeding.{Feeding, runOf, feeding, finishIn, finishOf}
-use Rattle.schedule.specs.Run.{recordTold}
+use Rattle.answers.specs.Run.{recordTold}
 use Rattle.schedule.specs.declared.Session.{Session}
 use Rattle.schedule.proofs.Tellings.{tells-feeding}
 

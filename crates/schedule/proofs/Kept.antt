@@ -16,9 +16,9 @@ use Rattle.record.specs.declared.entries.ScheduleRead.{ScheduleRead}
 use Rattle.record.specs.declared.setup.SettingsRead.the-variants.{Refused}
 use Rattle.word.specs.declared.Refusal.the-variants.{RecordNotInForm}
 use Rattle.schedule.specs.Gathering.{Held, lineLength, bytesOf, nothingHeld, put, closes}
-use Rattle.schedule.specs.Run.{Run, bySettings, setUpTold, byEntry, mostRecords, tooManyTold, scheduleTold, toldIn, recordTold}
-use Rattle.schedule.specs.declared.Stage.{Stage}
-use Rattle.schedule.specs.declared.Stage.the-variants.{Waiting, Running, Over}
+use Rattle.answers.specs.Run.{Run, bySettings, setUpTold, byEntry, mostRecords, tooManyTold, scheduleTold, toldIn, recordTold}
+use Rattle.answers.specs.declared.Stage.{Stage}
+use Rattle.answers.specs.declared.Stage.the-variants.{Waiting, Running, Over}
 
 -- a record's last byte is a CR
 abbrev pub endsInCr : List ℕ → Bool

@@ -1,13 +1,8 @@
-pub mod Listing
 pub mod Gathering
 pub mod Feeding
 pub mod Kept
 pub mod Owed
 pub mod WholeInput
-pub mod OneProcess
-pub mod EntryTold
-pub mod OpenAfter
-pub mod Answering
 pub mod Tellings
 pub mod FedOn
 pub mod RunningOn

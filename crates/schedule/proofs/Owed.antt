@@ -25,11 +25,11 @@ use Rattle.printout.proofs.Longest.{row-at-most}
 use Rattle.printout.specs.Writing.{longestRow}
 use Rattle.schedule.specs.Feeding.{Feeding, holding, telling, answered, gathering, takeIn, takeByte, isFull}
 use Rattle.schedule.specs.Gathering.{bytesOf, put, closes}
-use Rattle.schedule.specs.Records.{recordsFrom}
-use Rattle.schedule.specs.Run.{Run, Told, bySetUp, bySettings, setUpTold, eventTold, byEntry, nobodysRow, mostRecords, tooManyTold, scheduleTold, toldIn, recordTold, rowsOf}
+use Rattle.answers.specs.Records.{recordsFrom}
+use Rattle.answers.specs.Run.{Run, Told, bySetUp, bySettings, setUpTold, eventTold, byEntry, nobodysRow, mostRecords, tooManyTold, scheduleTold, toldIn, recordTold, rowsOf}
 use Rattle.schedule.specs.WholeInput.{output}
-use Rattle.schedule.specs.declared.Stage.{Stage}
-use Rattle.schedule.specs.declared.Stage.the-variants.{Waiting, Running, Over}
+use Rattle.answers.specs.declared.Stage.{Stage}
+use Rattle.answers.specs.declared.Stage.the-variants.{Waiting, Running, Over}
 use Rattle.schedule.proofs.Kept.{Keeps, keeps-nothing, closes-kept, put-kept, told-kept}
 
 -- no record prints more than the longest row

@@ -11,13 +11,14 @@ use lib.ListN.{length, drop, length-drop, drop-of-length-le}
 use Rattle.rules.specs.declared.Board.{Board}
 use Rattle.printout.specs.Writing.{longestRow}
 use Rattle.printout.specs.declared.Row.{Row}
-use Rattle.schedule.specs.Answering.{Ends}
+use Rattle.schedule.specs.Telling.{Ends}
 use Rattle.schedule.specs.Feeding.{Feeding, feeding, isFull, feedOf}
 use Rattle.schedule.specs.Gathering.{Held, Gathered, lineLength, put, closes, gatherOf}
-use Rattle.schedule.specs.Order.{InOrder, Ready}
+use Rattle.answers.specs.Order.{InOrder}
+use Rattle.schedule.specs.Ready.{Ready}
 use Rattle.schedule.specs.declared.Session.{Session}
-use Rattle.schedule.specs.declared.Stage.{Stage}
-use Rattle.schedule.specs.declared.Stage.the-variants.{Running, Over}
+use Rattle.answers.specs.declared.Stage.{Stage}
+use Rattle.answers.specs.declared.Stage.the-variants.{Running, Over}
 use Rattle.schedule.proofs.RunningOn.{running, opened}
 
 -- no more is left than there was, and less where a byte was there

@@ -17,18 +17,18 @@ use Rattle.rules.specs.InForm.{Sound, Clean}
 use Rattle.record.specs.Entries.{scheduleOf}
 use Rattle.record.specs.declared.entries.ScheduleRead.{ScheduleRead}
 use Rattle.printout.specs.Writing.{longestRow}
-use Rattle.printout.specs.declared.Row.{Row}
-use Rattle.schedule.specs.Answering.{Answers, Tells, overOf, Ends}
+use Rattle.answers.specs.Answering.{Answers}
+use Rattle.schedule.specs.Telling.{Tells, overOf, Ends}
 use Rattle.schedule.specs.Feeding.{runOf, feeding, feedOf}
 use Rattle.schedule.specs.Gathering.{Held, bytesOf, gatherOf}
-use Rattle.schedule.specs.Moves.{slotOf}
-use Rattle.schedule.specs.Order.{InOrder}
-use Rattle.schedule.specs.Run.{nobodysRow, mostRecords, recordTold}
+use Rattle.answers.specs.Moves.{slotOf}
+use Rattle.answers.specs.Order.{InOrder}
+use Rattle.answers.specs.Run.{nobodysRow, mostRecords, recordTold}
 use Rattle.schedule.specs.declared.Session.{Session}
-use Rattle.schedule.specs.declared.Stage.the-variants.{Running, Over}
+use Rattle.answers.specs.declared.Stage.the-variants.{Running, Over}
 use Rattle.schedule.proofs.Feeding.{running-reads}
 use Rattle.schedule.proofs.FedOn.{fed-open, fed-left, fed-on, stage-is}
-use Rattle.schedule.proofs.OneProcess.{all-sized}
+use Rattle.answers.proofs.OneProcess.{all-sized}
 use Rattle.schedule.proofs.Tellings.{read-tells, within-records, past-records, in-stage, record-order, session-order}
 
 -- a running session
@@ -62,15 +62,15 @@ module _ (board : Board) (count held : ℕ) (cr : Bool) (line words out : List �
   opened e = fed-open (running board count held cr) line words out len bytes h left closed room running-reads g e
 
   -- one record too many
-  pub too-many : (row : Row) (session after : Session) (out-after : List ℕ) (next : ℕ) → closed ≡ true → mostRecords ≤ count
-      → row ≡ nobodysRow (mostRecords + 1) TooManyRecords → session ≡ running board count (h .held) (h .cr)
-      → Ends row session out len after out-after next
+  pub too-many : (session after : Session) (out-after : List ℕ) (next : ℕ) → closed ≡ true → mostRecords ≤ count
+      → session ≡ running board count (h .held) (h .cr)
+      → Ends (nobodysRow (mostRecords + 1) TooManyRecords) session out len after out-after next
       → (feeding after (h .line) words out-after next, left) ≡ feedOf (feeding (running board count held cr) line words out len) bytes
-  too-many row session after out-after next e many q x k =
-      let moved : Ends row (running board count held cr) out len after out-after next =
+  too-many session after out-after next e many x k =
+      let moved : Ends (nobodysRow (mostRecords + 1) TooManyRecords) (running board count held cr) out len after out-after next =
       record { over = k .over ∙ ap overOf x; bytes = k .bytes; place = k .place } in
       let told = in-stage (running board count held cr) words out len Running (bytesOf h) after words out-after next refl
-      (past-records (running board count held cr) words out len (bytesOf h) row after out-after next many q moved) in
+      (past-records (running board count held cr) words out len (bytesOf h) after out-after next many moved) in
       fed-left (running board count held cr) line words out len bytes h left closed room running-reads g after words out-after next e told
       (stage-is (runOf (running board count held cr) words) (runOf after words) Running Over refl (ap (λ (s : Session). s .stage) (k .over)))
 

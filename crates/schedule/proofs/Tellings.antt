@@ -36,16 +36,18 @@ use Rattle.printout.specs.Writing.{Written, longestRow, putRow}
 use Rattle.printout.specs.declared.Row.{Row}
 use Rattle.word.specs.declared.Refusal.{Refusal}
 use Rattle.word.specs.declared.Refusal.the-variants.{TooManyRecords}
-use Rattle.schedule.specs.Answering.{Answers, Tells, overOf, Ends}
+use Rattle.answers.specs.Answering.{Answers}
+use Rattle.schedule.specs.Telling.{Tells, overOf, Ends}
 use Rattle.schedule.specs.Feeding.{runOf, sessionOf, feeding, telling}
-use Rattle.schedule.specs.Moves.{slotOf, moveOf, rowBy}
-use Rattle.schedule.specs.Order.{InOrder, OrderIn}
-use Rattle.schedule.specs.Run.{Run, Told, ended, setUpRow, bySetUp, bySettings, setUpTold, nobodysRow, byEntry, mostRecords, tooManyTold, scheduleTold, toldIn, recordTold}
+use Rattle.answers.specs.Moves.{slotOf, moveOf, rowBy}
+use Rattle.answers.specs.Order.{InOrder}
+use Rattle.schedule.specs.Ready.{OrderIn}
+use Rattle.answers.specs.Run.{Run, Told, ended, setUpRow, bySetUp, bySettings, setUpTold, nobodysRow, byEntry, mostRecords, tooManyTold, scheduleTold, toldIn, recordTold}
 use Rattle.schedule.specs.declared.Session.{Session}
-use Rattle.schedule.specs.declared.Stage.{Stage}
-use Rattle.schedule.specs.declared.Stage.the-variants.{Waiting, Running, Over}
-use Rattle.schedule.proofs.Answering.{row-put}
-use Rattle.schedule.proofs.EntryTold.{entry-told, entry-order}
+use Rattle.answers.specs.declared.Stage.{Stage}
+use Rattle.answers.specs.declared.Stage.the-variants.{Waiting, Running, Over}
+use Rattle.answers.proofs.Answering.{row-put}
+use Rattle.answers.proofs.EntryTold.{entry-told, entry-order}
 
 -- a last row
 pub ends : (row : Row) (session : Session) (out : List ℕ) (len : ℕ) (out-after : List ℕ) (next : ℕ) → longestRow ≤ length out - len
@@ -53,6 +55,10 @@ pub ends : (row : Row) (session : Session) (out : List ℕ) (len : ℕ) (out-aft
 ends row session out len out-after next room put =
     let whole = put ∙ row-put row out len room in
     record { over = refl; bytes = ap (λ (w : Written). w .0) whole; place = ap (λ (w : Written). w .1) whole }
+
+pub ends-at : (session : Session) (out : List ℕ) (len : ℕ) (row right : Row) (after : Session) (out-after : List ℕ) (next : ℕ)
+    → row ≡ right → Ends row session out len after out-after next → Ends right session out len after out-after next
+ends-at session out len row right after out-after next e k = subst (λ (r : Row). Ends r session out len after out-after next) e k
 
 -- a run that ends with a row
 pub ends-tell : (row right : Row) (session after : Session) (words words-after out out-after : List ℕ) (len next : ℕ)
@@ -217,14 +223,14 @@ module _ (session : Session) (words out : List ℕ) (len : ℕ) where
       ∙ ap (λ (t : Bool). cond t (said (runOf session words) bytes) (tooManyTold (runOf session words)))
       (sym (lt-ltb (session .count) mostRecords few))) k
 
-  pub past-records : (bytes : List ℕ) (row : Row) (after : Session) (out-after : List ℕ) (next : ℕ)
-      → mostRecords ≤ session .count → row ≡ nobodysRow (mostRecords + 1) TooManyRecords → Ends row session out len after out-after next
+  pub past-records : (bytes : List ℕ) (after : Session) (out-after : List ℕ) (next : ℕ)
+      → mostRecords ≤ session .count → Ends (nobodysRow (mostRecords + 1) TooManyRecords) session out len after out-after next
       → Tells (scheduleTold (runOf session words) bytes) out len after words out-after next
   unfolding scheduleTold
-  past-records bytes row after out-after next many e k =
+  past-records bytes after out-after next many k =
       subst (λ (t : Bool). Tells (cond t (said (runOf session words) bytes) (tooManyTold (runOf session words))) out len after words out-after next)
       (sym (le-ltb (session .count) mostRecords many))
-      (ends-tell row (nobodysRow (mostRecords + 1) TooManyRecords) session after words words out out-after len next e k)
+      (ends-tell _ (nobodysRow (mostRecords + 1) TooManyRecords) session after words words out out-after len next refl k)
 
   -- any record, by the stage
   pub in-stage : (s : Stage) (bytes : List ℕ) (after : Session) (words-after out-after : List ℕ) (next : ℕ) → session .stage ≡ s

@@ -11,8 +11,8 @@ use Rattle.printout.specs.Row.{heading}
 use Rattle.printout.specs.Writing.{longestRow}
 use Rattle.schedule.specs.Feeding.{Feeding, finishIn, finishOf, takeByte, isFull, sameStage, feedOf}
 use Rattle.schedule.specs.Gathering.{lineLength, bytesOf}
-use Rattle.schedule.specs.Records.{recordsFrom}
-use Rattle.schedule.specs.Run.{Told, beginningRun, recordTold, rowsOf, printoutOf}
+use Rattle.answers.specs.Records.{recordsFrom}
+use Rattle.answers.specs.Run.{Told, beginningRun, recordTold, rowsOf, printoutOf}
 use Rattle.schedule.specs.WholeInput.{Action, offer, flush, Caller, output, started, act, acts, Whole}
 use Rattle.schedule.proofs.Kept.{Keeps, keeps-nothing, told-kept}
 use Rattle.schedule.proofs.Owed.{told-short, output-more, Owes, over-rows, byte-owes}

@@ -7,10 +7,10 @@ use lib.ListN.{length}
 use lib.Seq.{sets}
 use Rattle.printout.specs.Writing.{longestRow}
 use Rattle.schedule.specs.Gathering.{Held, bytesOf, nothingHeld, put, closes}
-use Rattle.schedule.specs.Run.{Run, Told, recordTold}
+use Rattle.answers.specs.Run.{Run, Told, recordTold}
 use Rattle.schedule.specs.declared.Session.{Session}
-use Rattle.schedule.specs.declared.Stage.{Stage}
-use Rattle.schedule.specs.declared.Stage.the-variants.{Waiting, Running, Over}
+use Rattle.answers.specs.declared.Stage.{Stage}
+use Rattle.answers.specs.declared.Stage.the-variants.{Waiting, Running, Over}
 
 -- a run, the record that is being gathered, and the output, of which the first `len` bytes are written
 pub record Feeding : Type 0 where

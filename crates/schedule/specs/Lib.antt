@@ -1,9 +1,5 @@
-pub mod Records
-pub mod Run
-pub mod Listing
 pub mod Gathering
 pub mod Feeding
 pub mod WholeInput
-pub mod Order
-pub mod Moves
-pub mod Answering
+pub mod Ready
+pub mod Telling

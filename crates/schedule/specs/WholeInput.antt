@@ -11,8 +11,8 @@ use Rattle.printout.specs.Row.{heading}
 use Rattle.printout.specs.Writing.{longestRow}
 use Rattle.schedule.specs.Feeding.{Feeding, feedOf, finishOf, isFull}
 use Rattle.schedule.specs.Gathering.{lineLength, nothingHeld}
-use Rattle.schedule.specs.Run.{beginningRun, printoutOf}
-use Rattle.schedule.specs.declared.Stage.the-variants.{Over}
+use Rattle.answers.specs.Run.{beginningRun, printoutOf}
+use Rattle.answers.specs.declared.Stage.the-variants.{Over}
 
 -- what a caller does between the start and the end: it offers bytes, or writes out what the output holds
 pub data Action : Type 0 where

@@ -6,22 +6,20 @@ ghost use lib.Dec.{ltb};
 ghost use lib.ListN.{length, drop};
 ghost use Rattle.printout.specs.Writing.{longestRow};
 ghost use Rattle.schedule.specs.Feeding.{Feeding, feeding, feedOf};
-ghost use Rattle.schedule.specs.Order.{Ready};
-ghost use Rattle.schedule.specs.declared.Stage.the-variants.{Waiting, Running};
+ghost use Rattle.schedule.specs.Ready.{Ready};
+ghost use Rattle.answers.specs.declared.Stage.the-variants.{Waiting, Running};
 use crate::Fed;
 use crate::MOST_RECORDS;
 use crate::Session;
-use crate::Stage;
-use crate::answers::answer;
-use crate::ends::end_with;
+use crate::ends::end_with_too_many;
 use crate::gather::gather;
-use crate::moves::slot;
-use crate::rows::nobodys_row;
 use crate::setup::take_set_up;
+use answers::Stage;
+use answers::answer;
+use answers::slot;
 use printout::LONGEST_ROW;
 use record::read_schedule;
 use rules::Board;
-use word::Refusal;
 
 // There may be no room for another row.
 pub(crate) fn is_full(lent: usize, len: usize) -> bool
@@ -121,12 +119,7 @@ pub(crate) fn feed_running(
         next = found.next;
         if found.closed {
             if count >= MOST_RECORDS {
-                let last = end_with(
-                    nobodys_row(MOST_RECORDS + 1, Refusal::TooManyRecords),
-                    running(board, count, held, cr),
-                    out,
-                    size,
-                );
+                let last = end_with_too_many(running(board, count, held, cr), out, size);
                 let after = last.session;
                 return Fed {
                     session: after,

@@ -6,18 +6,16 @@ ghost use Prim.Native.Nat.{ℕ, _-_, _≤_};
 ghost use lib.ListN.{length, drop};
 ghost use Rattle.printout.specs.Writing.{Written, putHeading, longestRow};
 ghost use Rattle.schedule.specs.Feeding.{Feeding, feeding, sessionOf, feedOf, finishOf};
-ghost use Rattle.schedule.specs.Order.{Ready};
-ghost use Rattle.schedule.specs.Run.{beginningRun};
+ghost use Rattle.schedule.specs.Ready.{Ready};
+ghost use Rattle.answers.specs.Run.{beginningRun};
 
-mod answers;
 mod chunks;
 mod ends;
 mod gather;
-mod moves;
-mod rows;
 mod setup;
 mod take;
 
+pub use answers::Stage;
 use board::blank_board;
 use printout::put_heading;
 use rules::Board;
@@ -27,13 +25,6 @@ pub const MOST_RECORDS: u64 = 1000000;
 
 // A record over 512 bytes is refused whatever it holds; the first 513 show that, and no more are kept.
 pub const LINE_LENGTH: usize = 513;
-
-// Waiting for the set-up, running, or over.
-pub enum Stage {
-    Waiting,
-    Running,
-    Over,
-}
 
 // A run between two chunks. `held` bytes of the next record stand in a lent line; `cr`: the last of them was a CR.
 pub struct Session {

@@ -2,22 +2,21 @@
 ghost use Prim.Native.Nat.{_-_, _≤_, _<_};
 ghost use lib.ListN.{length};
 ghost use Rattle.printout.specs.Writing.{longestRow};
-ghost use Rattle.schedule.specs.Answering.{Tells};
+ghost use Rattle.schedule.specs.Telling.{Tells};
 ghost use Rattle.schedule.specs.Feeding.{runOf};
-ghost use Rattle.schedule.specs.Order.{InOrder, OrderIn};
-ghost use Rattle.schedule.specs.Run.{mostRecords, byEntry, scheduleTold, recordTold};
+ghost use Rattle.answers.specs.Order.{InOrder};
+ghost use Rattle.schedule.specs.Ready.{OrderIn};
+ghost use Rattle.answers.specs.Run.{mostRecords, byEntry, scheduleTold, recordTold};
 use crate::MOST_RECORDS;
 use crate::Next;
 use crate::Session;
-use crate::Stage;
-use crate::answers::answer;
-use crate::ends::end_with;
-use crate::moves::slot;
-use crate::rows::nobodys_row;
+use crate::ends::end_with_too_many;
 use crate::setup::take_set_up;
+use answers::Stage;
+use answers::answer;
+use answers::slot;
 use record::ScheduleRead;
 use record::read_schedule;
-use word::Refusal;
 
 fn take_read(
     session: Session,
@@ -67,12 +66,7 @@ fn take_schedule(
         let read = read_schedule(bytes, s.w);
         return take_read(session, read, mem, out, len);
     }
-    end_with(
-        nobodys_row(MOST_RECORDS + 1, Refusal::TooManyRecords),
-        session,
-        out,
-        len,
-    )
+    end_with_too_many(session, out, len)
 }
 
 pub(crate) fn take_record(

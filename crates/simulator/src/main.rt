@@ -7,7 +7,7 @@ ghost use lib.ListN.{length};
 ghost use Rattle.printout.specs.Writing.{longestRow};
 ghost use Rattle.schedule.specs.Feeding.{feeding, finishOf};
 ghost use Rattle.schedule.specs.Gathering.{lineLength};
-ghost use Rattle.schedule.specs.Order.{Ready};
+ghost use Rattle.schedule.specs.Ready.{Ready};
 ghost use Rattle.schedule.specs.WholeInput.{Takes, TakesSome, madeRoom};
 use libc::STDIN_FILENO;
 use libc::STDOUT_FILENO;

@@ -2,7 +2,7 @@
 use mathlib.Core.Path.{ap}
 use mathlib.Core.Bool.{false}
 use Rattle.rules.specs.declared.Board.{Board}
-use Rattle.schedule.specs.declared.Stage.the-variants.{Waiting}
+use Rattle.answers.specs.declared.Stage.the-variants.{Waiting}
 use borrow.Author.Needs.{needs}
 use Rattle.schedule.proofs.start.Statement.{statement}
 use Rattle.schedule.proofs.start.Tie as tie

@@ -4,7 +4,7 @@ use native.Mathlib.Omega.{arith}
 use mathlib.Core.Path.{_≡_, refl}
 use lib.ListN.{length}
 use Rattle.schedule.specs.Feeding.{feeding}
-use Rattle.schedule.specs.Order.{Ready}
+use Rattle.schedule.specs.Ready.{Ready}
 use Rattle.schedule.specs.WholeInput.{TakesSome}
 use Rattle.schedule.proofs.Takes.{takes-none, takes-one, some-then-some}
 use Rattle.simulator.proofs.read_all.Statement.{statement}

@@ -7,7 +7,7 @@ use mathlib.Core.List.{List}
 use lib.ListN.{length, take, drop}
 use lib.Seq.{take-all}
 use Rattle.schedule.specs.Feeding.{feeding}
-use Rattle.schedule.specs.Order.{Ready}
+use Rattle.schedule.specs.Ready.{Ready}
 use Rattle.schedule.specs.WholeInput.{Takes}
 use Rattle.schedule.proofs.Callers.{fed-within}
 use Rattle.schedule.proofs.Takes.{takes-none, takes-made-room, room-made, room-within, takes-on, advances}

@@ -9,10 +9,10 @@ use Rattle.rules.specs.Processes.{processAt}
 use Rattle.rules.specs.declared.Settings.{Settings}
 use Rattle.schedule.specs.Feeding.{feeding, feedOf}
 use Rattle.schedule.specs.Gathering.{lineLength}
-use Rattle.schedule.specs.Order.{InOrder}
+use Rattle.answers.specs.Order.{InOrder}
 use Rattle.schedule.specs.declared.Session.{Session}
 use Rattle.schedule.proofs.Feeding.{feed-full}
-use Rattle.schedule.proofs.OneProcess.{all-sized}
+use Rattle.answers.proofs.OneProcess.{all-sized}
 use Rattle.schedule.proofs.Progress.{progress, used-up, open-on, is-full, room, as-running, running-ready, ended-ready}
 use Rattle.schedule.proofs.RunningOn.{running, Served, served, too-many, goes-on}
 use Rattle.schedule.proofs.chunks.feed_running.Statement.{statement}
@@ -65,42 +65,35 @@ gather-requires c κs =
     let at-loop = c .before .before .before .before in
     (at-loop .loop .inv .4, at-loop .loop .inv .3, at-loop .loop .inv .0)
 
-add-nobodys-row : tie.Need-add-nobodys-row Inv-loop μ-loop
-add-nobodys-row c = omega arith
-
-nobodys-row-requires : tie.Need-nobodys-row-requires Inv-loop μ-loop
-nobodys-row-requires c κs = omega arith
-
 running-requires-2 : tie.Need-running-requires-2 Inv-loop μ-loop
 running-requires-2 c κs = omega arith
 
-end-with-requires : tie.Need-end-with-requires Inv-loop μ-loop
-end-with-requires c κs =
-    let at-if1 = c .before .before .before .before .before .before .before .before .before in
+end-with-too-many-requires : tie.Need-end-with-too-many-requires Inv-loop μ-loop
+end-with-too-many-requires c κs =
+    let at-if1 = c .before .before .before .before .before .before .before .before in
     let at-is-full = at-if1 .before in
     room _ _ (at-is-full .is-full .ensures) (at-if1 .if1 .left)
 
 same-length-4 : tie.Need-same-length-4 Inv-loop μ-loop
 same-length-4 c =
-    let at-gather = c .before .before .before .before .before .before .before .before .before .before .before in
+    let at-gather = c .before .before .before .before .before .before .before .before .before .before in
     let at-loop = at-gather .before .before .before .before .before in
     omega (arith, at-loop .loop .inv .5, at-gather .gather .ensures .1 .2, at-loop .loop .inv .4)
 
 same-length-5 : tie.Need-same-length-5 Inv-loop μ-loop
 same-length-5 c =
-    let at-loop = c .before .before .before .before .before .before .before .before .before .before .before .before .before .before .before .before in
+    let at-loop = c .before .before .before .before .before .before .before .before .before .before .before .before .before .before .before in
     omega (arith, at-loop .loop .inv .6)
 
 same-length-6 : tie.Need-same-length-6 Inv-loop μ-loop
 same-length-6 c =
-    let at-loop = c .before .before .before .before .before .before .before .before .before .before .before .before .before .before .before .before in
+    let at-loop = c .before .before .before .before .before .before .before .before .before .before .before .before .before .before .before in
     omega (arith, at-loop .loop .inv .7, c .before .before .out .given)
 
 returns-2 : tie.Need-returns-2 Inv-loop μ-loop
 returns-2 c =
     let at-running2 = c .before .before .before .before .before in
-    let at-nobodys-row = at-running2 .before in
-    let at-if3 = at-nobodys-row .before in
+    let at-if3 = at-running2 .before in
     let at-if2 = at-if3 .before in
     let at-gather = at-if2 .before .before .before in
     let at-if1 = at-gather .before .before in
@@ -111,10 +104,10 @@ returns-2 c =
     let a = start .args in
     let whole = loop .inv .8 ∙ as-running (a .session) (a .line .now) (a .mem .now) (a .out .now) (a .len) (drop (a .at) (a .chunk .now)) (start .pre .0) in
     let gathered = at-gather .gather .ensures in
-    let ended = c .before .before .before .end-with .ensures in (
+    let ended = c .before .before .before .end-with-too-many .ensures in (
       too-many (loop .board) (loop .count) (loop .held) (loop .cr) (loop .line) (loop .mem) (loop .out) (loop .size) (drop (loop .next) (a .chunk .now)) _ _ _
-          (room _ _ (at-is-full .is-full .ensures) (at-if1 .if1 .left)) (gathered .0) _ _ _ _ _ (at-if2 .if2 .taken) (at-if3 .if3 .taken)
-          (at-nobodys-row .nobodys-row .ensures) (at-running2 .running2 .ensures) ended ∙ whole,
+          (room _ _ (at-is-full .is-full .ensures) (at-if1 .if1 .left)) (gathered .0) _ _ _ _ (at-if2 .if2 .taken) (at-if3 .if3 .taken)
+          (at-running2 .running2 .ensures) ended ∙ whole,
       (ended-ready _ _ _ _ _ _ _ _ _ ended (gathered .1 .2), gathered .1 .1),
     )
 
@@ -291,10 +284,8 @@ feed-running-spec =
     same-length-3
     returns
     gather-requires
-    add-nobodys-row
-    nobodys-row-requires
     running-requires-2
-    end-with-requires
+    end-with-too-many-requires
     same-length-4
     same-length-5
     same-length-6

@@ -7,8 +7,8 @@ use Rattle.schedule.proofs.Tellings.{in-stage, session-order, record-or
 use lib.ListN.{drop}
 use Rattle.schedule.specs.Feeding.{runOf, feeding}
 use Rattle.schedule.specs.declared.Session.{Session}
-use Rattle.schedule.specs.declared.Stage.{Stage}
-use Rattle.schedule.specs.declared.Stage.the-variants.{Waiting}
+use Rattle.answers.specs.declared.Stage.{Stage}
+use Rattle.answers.specs.declared.Stage.the-variants.{Waiting}
 use borrow.Author.Needs.{needs}
 use Rattle.schedule.proofs.chunks.feed_set_up.Statement.{statement}
 use Rattle.schedule.proofs.chunks.feed_set_up.Tie as tie

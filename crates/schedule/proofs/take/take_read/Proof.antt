@@ -2,7 +2,7 @@
 use native.Mathlib.Omega.{arith}
 use Prim.Native.Nat.{_<_}
 use Rattle.schedule.proofs.RunningOn.{served}
-use Rattle.schedule.proofs.OneProcess.{all-sized}
+use Rattle.answers.proofs.OneProcess.{all-sized}
 use Rattle.schedule.proofs.Tellings.{read-tells}
 use borrow.Author.Needs.{needs}
 use Rattle.schedule.proofs.take.take_read.Statement.{statement}

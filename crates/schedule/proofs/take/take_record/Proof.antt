@@ -1,6 +1,6 @@
 -- `take_record` meets its contract: by cases of the stage. Assumes nothing.
 use Rattle.schedule.proofs.Tellings.{in-stage, over-told}
-use Rattle.schedule.specs.declared.Stage.the-variants.{Waiting, Running, Over}
+use Rattle.answers.specs.declared.Stage.the-variants.{Waiting, Running, Over}
 use borrow.Author.Needs.{needs}
 use Rattle.schedule.proofs.take.take_record.Statement.{statement}
 use Rattle.schedule.proofs.take.take_record.Tie as tie

@@ -29,26 +29,18 @@ returns c =
     within-records (a .session) (a .mem .now) (a .out .now) (a .len) (a .bytes .now) _ _ _ _ _ (at-if1 .if1 .taken) (at-read-schedule .read-schedule .ensures)
     (at-take-read .take-read .ensures)
 
-add-nobodys-row : tie.Need-add-nobodys-row
-add-nobodys-row c = search needs
-
-nobodys-row-requires : tie.Need-nobodys-row-requires
-nobodys-row-requires c κs = search needs
-
-end-with-requires : tie.Need-end-with-requires
-end-with-requires c κs = search needs
+end-with-too-many-requires : tie.Need-end-with-too-many-requires
+end-with-too-many-requires c κs = search needs
 
 same-length-3 : tie.Need-same-length-3
 same-length-3 c = search needs
 
 returns-2 : tie.Need-returns-2
 returns-2 c =
-    let at-nobodys-row = c .before .before .before .before in
-    let at-if1 = at-nobodys-row .before in
+    let at-if1 = c .before .before .before .before in
     let start = at-if1 .before .before .before .before .before in
     let a = start .args in
-    past-records (a .session) (a .mem .now) (a .out .now) (a .len) (a .bytes .now) _ _ _ _ (at-if1 .if1 .left) (at-nobodys-row .nobodys-row .ensures)
-    (c .before .before .end-with .ensures)
+    past-records (a .session) (a .mem .now) (a .out .now) (a .len) (a .bytes .now) _ _ _ (at-if1 .if1 .left) (c .before .before .end-with-too-many .ensures)
 
 pub take-schedule-spec : {M : Type 1} → statement M
 take-schedule-spec =
@@ -59,8 +51,6 @@ take-schedule-spec =
     same-length
     same-length-2
     returns
-    add-nobodys-row
-    nobodys-row-requires
-    end-with-requires
+    end-with-too-many-requires
     same-length-3
     returns-2)

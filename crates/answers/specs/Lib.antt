@@ -1,0 +1,6 @@
+pub mod Records
+pub mod Run
+pub mod Listing
+pub mod Order
+pub mod Moves
+pub mod Answering
