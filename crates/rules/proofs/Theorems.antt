@@ -20,8 +20,7 @@ pub use Rattle.rules.proofs.Sequences.Closing.{closes, close-in}
 -- opening or closing one variable's sequence changes no other's
 pub use Rattle.rules.proofs.Sequences.Closing.{opening-opens, opening-no-other, closing-closes, closing-no-other}
 -- the count of ones is the count over the variables; opening adds one, closing takes one off
-pub use Rattle.rules.proofs.Sequences.Masks.{counted}
-pub use Rattle.rules.proofs.Sequences.Counts.{count-none, opening-counts, closing-counts, reopening-counts, shut-counts}
+pub use Rattle.rules.proofs.Sequences.Counts.{counted, count-none, opening-counts, closing-counts, reopening-counts, shut-counts}
 -- a check is passed exactly if sizes, room, good form, process number and what the call needs are right
 pub use Rattle.rules.proofs.Refusals.Checked.{Stands, stands, stands-fine, Accepted, accepted, accepted-fine, step-accepted, step-fine, Beginning, begin-accepted, begin-fine}
 -- a refusal leaves board and words as found, and is answered exactly where the check gives it
@@ -46,4 +45,8 @@ pub use Rattle.rules.proofs.Changes.Leaves.{step-rest, step-length, ste
 -- at the entry point: a load's first step opens its sequence, a store's answer closes it; no other variable's changes
 pub use Rattle.rules.proofs.Changes.Leaves.{step-own, step-sequence, step-sequences}
 -- demand 3: every answer is the atomic one, under the total premise and within a window; calls are as short as document 01 says
-pub use Rattle.rules.proofs.Demand3.Holds.{holds, in-window, window-of-few}
+pub use Rattle.rules.proofs.Demand3.Holds.{holds, in-window}
+-- the total premise of demand 3 gives the window premise
+pub use Rattle.rules.proofs.Demand3.Window.{window-of-few}
+-- runs that meet demand 3's premise to the last store, and one that shows it tight
+pub use Rattle.rules.proofs.Demand3.Shown.{shown}

@@ -27,15 +27,6 @@ Writes s me (SwapsSegment c read announced) a = a ≡ segmentAt s (c .variable) 
 Writes s me (ReadsSegmentAgain c) a = ⊥
 Writes s me (ReadsHeader c value) a = ⊥
 
-abbrev pub isRefusal : Answer → Bool
-isRefusal Begun = false
-isRefusal Busy = false
-isRefusal Value = false
-isRefusal (Witness q) = false
-isRefusal Yes = false
-isRefusal No = false
-isRefusal (Refused r) = true
-
 -- the first step of a load
 abbrev pub isLoadsFirst : Place → Bool
 isLoadsFirst Idle = false

@@ -18,7 +18,7 @@ use Rattle.rules.specs.declared.Kind.the-variants.{One, Many}
 use Rattle.rules.specs.declared.Place.the-variants.{Idle}
 use Rattle.rules.specs.declared.Settings.{Settings}
 use Rattle.rules.proofs.Sizes.Addresses.{header-in, segment-in, announce-in}
-use Rattle.rules.proofs.Demand3.Follow.{BoardMeans}
+use Rattle.rules.proofs.Demand3.Means.{BoardMeans}
 use Rattle.rules.proofs.Demand3.Invariant.Whole.{freshState}
 use Rattle.rules.proofs.Demand3.Link.Keeping.{Keeps}
 use Rattle.rules.proofs.Demand3.Link.Memory.{MemK}

@@ -38,13 +38,14 @@ use Rattle.rules.specs.declared.Place.{Place}
 use Rattle.rules.specs.declared.Place.the-variants.{Idle, LoadReadsWord, ValidateReadsWord, StoreSwapsWord, LoadReadsHeader, ValidateReadsHeader, StoreReadsHeader, StoreAnnounces, StoreSwapsHeader, ReadsSegment, ReadsAnnounced, SwapsSegment, ReadsSegmentAgain, ReadsHeader}
 use Rattle.rules.specs.declared.Process.{Process}
 use Rattle.rules.specs.declared.Settings.{Settings}
+use Rattle.rules.proofs.Tests.{never}
 use Rattle.rules.proofs.GoodForm.Held.{segment-in, clauses}
 use Rattle.rules.proofs.Sizes.Sized.{sized}
 use Rattle.rules.proofs.Refusals.Checked.{Accepted, step-accepted}
 use Rattle.rules.proofs.Branches.{branch, both-arms}
 use Rattle.rules.proofs.GoodForm.Keeps.{process-fits}
-use Rattle.rules.proofs.Demand3.Change.{never, change-all}
-use Rattle.rules.proofs.Demand3.Runs.{begin-cases, step-cases, ready-fine, Shaped, fresh-idle, fresh-is, run-shaped, accepts}
+use Rattle.rules.proofs.Demand3.Change.{change-all}
+use Rattle.rules.proofs.Demand3.Runs.{begin-cases, step-cases, ready-fine, BoardOf, fresh-idle, fresh-is, run-shaped, accepts}
 
 -- the steps that are left from a place, at most; w segments
 abbrev pub left : ℕ → Place → ℕ
@@ -143,7 +144,7 @@ put-timed s own board me p mine l h o =
     (rw (getD-set-same (board .processes) me p nobody l) h)
     (λ q n. rw (getD-set-other (board .processes) me q p nobody n) (o q))
 
-room : (board : Board) (me : ℕ) (words : List ℕ) {s : Settings} → Shaped s board → Accepted board me words → me < length (board .processes)
+room : (board : Board) (me : ℕ) (words : List ℕ) {s : Settings} → BoardOf s board → Accepted board me words → me < length (board .processes)
 room board me words h a = omega (arith, h .sixteen, sized (board .settings) (a .sizes .settings) .n-most, a .mine)
 
 module _ (s : Settings) (own : ℕ → Own) where
@@ -154,7 +155,7 @@ module _ (s : Settings) (own : ℕ → Own) where
   After event a =
       AllTimed (a .board) (cond (taken (a .answer)) (change own (processOf event) (counting event (own (processOf event)))) own)
 
-  begin-timed : (board : Board) (me : ℕ) (call : Call) (values words : List ℕ) → Shaped s board → AllTimed board own →
+  begin-timed : (board : Board) (me : ℕ) (call : Call) (values words : List ℕ) → BoardOf s board → AllTimed board own →
       After (begin me call values) (beginRule board me call values words)
   begin-timed board me call values words h o =
       begin-cases (After (begin me call values)) board me call values words
@@ -162,7 +163,7 @@ module _ (s : Settings) (own : ℕ → Own) where
       (room board me words h a) (record { sum = rw (h .settings) (omega (arith, first-timed (s .kind) (s .w) call)) }) o)
       (λ r. o)
 
-  step-timed : (board : Board) (me : ℕ) (words : List ℕ) → Shaped s board → AllTimed board own →
+  step-timed : (board : Board) (me : ℕ) (words : List ℕ) → BoardOf s board → AllTimed board own →
       After (step me) (stepRule board me words .0)
   unfolding processStep
   step-timed board me words h o =

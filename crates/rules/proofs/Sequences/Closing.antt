@@ -45,7 +45,7 @@ closes n x y = go (isOpen n x) refl (eqb y x) refl
     go false e true q = ap (isOpen n) (eqb-true y x q) ∙ e
     go false e false q = refl
 
-pub closed-le : (n x : ℕ) → withClosed n x ≤ n
+closed-le : (n x : ℕ) → withClosed n x ≤ n
 unfolding withClosed
 closed-le n x = go (isOpen n x)
   where

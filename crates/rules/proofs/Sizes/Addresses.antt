@@ -13,7 +13,7 @@ use Rattle.rules.specs.declared.Kind.the-variants.{Many}
 use Rattle.rules.specs.declared.Settings.{Settings}
 
 -- row x of d words lies whole within t rows
-pub row-within : {x t : ℕ} (d : ℕ) → x < t → x * d + d ≤ t * d
+row-within : {x t : ℕ} (d : ℕ) → x < t → x * d + d ≤ t * d
 row-within {x} {t} d h = subst (λ (n : ℕ). n ≤ t * d) (suc-mul x d) (mul-le-mul-right d h)
 
 module _ (s : Settings) (z : Sized s) where

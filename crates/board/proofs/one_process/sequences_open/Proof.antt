@@ -1,6 +1,6 @@
 use Rattle.rules.specs.GoodForm as form
 use borrow.Author.Tests.{ltb-true}
-use Rattle.rules.proofs.Sequences.Masks.{counted}
+use Rattle.rules.proofs.Sequences.Counts.{counted}
 use Rattle.board.proofs.one_process.sequences_open.Statement.{statement}
 use Rattle.board.proofs.one_process.sequences_open.Tie as tie
 

@@ -10,7 +10,7 @@ use Rattle.rules.specs.declared.Call.{Call}
 use Rattle.rules.specs.declared.Call.the-variants.{Load, Validate, Store}
 use Rattle.rules.specs.declared.Kind.{Kind}
 use Rattle.rules.specs.declared.Kind.the-variants.{One, Many}
-use Rattle.rules.proofs.Demand3.Change.{never}
+use Rattle.rules.proofs.Tests.{never}
 use Rattle.rules.proofs.Demand3.Invariant.Kinds.{VarInvK, PairK, RelyK}
 use Rattle.rules.proofs.Demand3.Invariant.Many.{storing, Storing, Doing, Pair}
 use Rattle.rules.proofs.Demand3.Invariant.One.{Doing₁, Pair₁}

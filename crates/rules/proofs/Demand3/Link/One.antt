@@ -17,8 +17,9 @@ use Rattle.rules.specs.declared.Place.{Place}
 use Rattle.rules.specs.declared.Place.the-variants.{StoreSwapsWord}
 use Rattle.rules.specs.declared.Process.{Process}
 use Rattle.rules.specs.declared.Settings.{Settings}
+use Rattle.rules.proofs.Tests.{never}
 use Rattle.rules.proofs.Branches.{branch}
-use Rattle.rules.proofs.Demand3.Change.{never, each}
+use Rattle.rules.proofs.Demand3.Change.{each}
 use Rattle.rules.proofs.Demand3.Invariant.Begin.{past}
 use Rattle.rules.proofs.Demand3.Invariant.One.{Opened₁, Pair₁}
 use Rattle.rules.proofs.Demand3.Link.Keeping.{Held, held-same, held-shut, held-opened}

@@ -7,7 +7,8 @@ use Prim.Native.Nat.{ℕ, _<_}
 use native.Mathlib.Omega.{arith}
 use borrow.Author.Tests.{eqb-false, eq-eqb}
 use Rattle.rules.specs.Figure2.{content, truth}
-use Rattle.rules.proofs.Demand3.Change.{never, change-same, change-other}
+use Rattle.rules.proofs.Tests.{never}
+use Rattle.rules.proofs.Demand3.Change.{change-same, change-other}
 use Rattle.rules.proofs.Demand3.Invariant.Kinds.{Fine}
 use Rattle.rules.proofs.Demand3.Invariant.Many.{VarInv, Opened, Pair}
 use Rattle.rules.proofs.Demand3.Invariant.OneStep.Leaving.{owing-inv, owing-rely}

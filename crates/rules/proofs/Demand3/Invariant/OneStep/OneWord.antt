@@ -9,7 +9,8 @@ use lib.Dec.{eqb}
 use borrow.Author.Tests.{eqb-false, eq-eqb, ne-eqb}
 use Rattle.rules.specs.Demand3.{Another}
 use Rattle.rules.specs.Figure2.{content, truth}
-use Rattle.rules.proofs.Demand3.Change.{never, change-same, change-other, each}
+use Rattle.rules.proofs.Tests.{never}
+use Rattle.rules.proofs.Demand3.Change.{change-same, change-other, each}
 use Rattle.rules.proofs.Demand3.Invariant.Kinds.{Fine₁}
 use Rattle.rules.proofs.Demand3.Invariant.One.{VarInv₁, Opened₁, Pair₁}
 use Rattle.rules.proofs.Demand3.Invariant.Since.{free[], some-other}

@@ -9,7 +9,8 @@ use native.Mathlib.Omega.{arith}
 use lib.Dec.{ltb}
 use borrow.Author.Tests.{ltb-true, ltb-false}
 use Rattle.rules.specs.Figure2.{change}
-use Rattle.rules.proofs.Demand3.Change.{never, change-all, each}
+use Rattle.rules.proofs.Tests.{never}
+use Rattle.rules.proofs.Demand3.Change.{change-all, each}
 use Rattle.rules.proofs.Demand3.Invariant.Kinds.{Fine}
 use Rattle.rules.proofs.Demand3.Invariant.Many.{VarInv, Opened, Checked, Loads, Copying, Pair}
 use Rattle.rules.proofs.Demand3.Invariant.OneStep.Leaving.{untouched, reseat, still, closed}
