@@ -30,6 +30,7 @@ use Rattle.rules.specs.declared.Kind.{Kind}
 use Rattle.rules.specs.declared.Kind.the-variants.{One, Many}
 use Rattle.rules.specs.declared.Process.{Process}
 use Rattle.rules.specs.declared.Settings.{Settings}
+use Rattle.rules.proofs.Changes.Frame.{framed}
 use Rattle.rules.proofs.GoodForm.Held as form
 use Rattle.rules.proofs.Refusals.Checked.{Accepted, Beginning}
 use Rattle.rules.proofs.GoodForm.Keeps.{process-fits}
@@ -44,7 +45,6 @@ use Rattle.rules.proofs.Demand3.Link.One.{link-one}
 use Rattle.rules.proofs.Demand3.Link.Stands.{at-place, one-load, one-validate, one-store, at-load, at-validate, at-store, StandsK, Says, says-busy, says-values, says-witness, says-yes, says-no, Linked}
 use Rattle.rules.proofs.Demand3.Machine.{Told, Place as Stand, idle, Sequence, Var, none, Core, Out, anew, rules}
 use Rattle.rules.proofs.Demand3.Runs as runs
-use Rattle.rules.proofs.Demand3.Steps.{nearer}
 use Rattle.rules.proofs.Demand3.Means.{ProcessMeans, BoardMeans, alike}
 
 -- an answer of the board is right, by what was seen of its variable
@@ -65,7 +65,8 @@ right-said W p o l told a says-yes R = R .0
 right-said W p o l told a says-no R = (R .0, R .1 refl)
 
 -- the step of either kind
-link : (k : Kind) (s : Settings) → Sized s → (p x : ℕ) (vars : ℕ → Var) (rows : ℕ → ℕ → ℕ) (sequences : ℕ → Sequence) (q : Process) (words : List ℕ) →
+link : (k : Kind) (s : Settings) → Sized s → (p x : ℕ) (vars : ℕ → Var) (rows : ℕ → ℕ → ℕ) (sequences : ℕ → Sequence)
+    (q : Process) (words : List ℕ) →
     p < s .n → x < s .t → MemK k s vars rows words → Held k s sequences (q .keep) (q .opened) → processFits s q ≡ true →
     VarInvK k (s .w) (vars x) → (stand : Stand) → StandsK k (bits s) x (q .values) (q .gathered) (q .place) stand → isIdle (q .place) ≡ false →
     PairK k (s .w) p (vars x) (rows p) (sequences x) stand → (past stand ≡ true → length (vars x .seen .since p) + 2 ≤ tagLimit (bits s)) →
@@ -107,9 +108,9 @@ module _ (s : Settings) (z : Sized s) (st : State) (I : Inv (s .kind) (s .w) st)
   sees x note a = cond (taken a) (change seen x (see me note (seen x))) seen
 
   -- the process's own part is put back
-  put-process : (x : ℕ) (q′ : Process) (r : Proc) → me < s .n → ProcessMeans (s .kind) s r q′ →
+  put-process : (q′ : Process) (r : Proc) → me < s .n → ProcessMeans (s .kind) s r q′ →
       (p : ℕ) → p < s .n → ProcessMeans (s .kind) s (change (st .procs) me r p) (getD (set processes me q′) p nobody)
-  put-process x q′ r mn h = change-all (λ p a. p < s .n → ProcessMeans (s .kind) s a (getD (set processes me q′) p nobody)) (st .procs) me r
+  put-process q′ r mn h = change-all (λ p a. p < s .n → ProcessMeans (s .kind) s a (getD (set processes me q′) p nobody)) (st .procs) me r
       (λ l. rw (getD-set-same processes me q′ nobody (omega (arith, R .sixteen, z .n-most))) h)
       (λ p n l. rw (getD-set-other processes me p q′ nobody n) (R .process p l))
 
@@ -134,7 +135,7 @@ module _ (s : Settings) (z : Sized s) (st : State) (I : Inv (s .kind) (s .w) st)
           memory = rw (change-id (st .rows) me) at
               (put-kind (s .kind) s z (st .vars) (st .rows) words (R .memory) me x (a .mine) (t .variable) (anew me (st .vars x)) none words
               (wrote-none (s .kind) s me x words) refl refl);
-          process = put-process x (beginning s call values q)
+          process = put-process (beginning s call values q)
               (record { at = x; place = firstOf call (at-place values); sequences = st .procs me .sequences }) (a .mine)
               (record { stands = first-stands (s .kind) (bits s) call values (q .gathered); held = mine .held });
           as-seen = change-both (λ y a c. a ≡ c .seen) seen (st .vars) x (see me begins (seen x)) (anew me (st .vars x))
@@ -192,7 +193,7 @@ module _ (s : Settings) (z : Sized s) (st : State) (I : Inv (s .kind) (s .w) st)
       pair = rw (eq-eqb there there refl) at (I .pair me there)
 
       got : taken (result .0 .answer) ≡ true
-      got = nearer s q me words (z .w-least) (q .opened) (q .place) (form.clauses s q fits .place) still .answers
+      got = framed (q .place) s q me words still .own .answers
 
       short : past (st .procs me .place) ≡ true → length (st .vars there .seen .since me) + 2 ≤ tagLimit (bits s)
       short e = rw (← (R .as-seen there), ← same-variable) (B got (sym (alike (s .kind) s (st .procs me) q mine .sequence) ∙ e))
@@ -226,7 +227,7 @@ module _ (s : Settings) (z : Sized s) (st : State) (I : Inv (s .kind) (s .w) st)
           sixteen = length-set processes me (result .0 .process) ∙ R .sixteen;
           memory = put-kind (s .kind) s z (st .vars) (st .rows) words (R .memory) me there mn xt
               (out .var) (core .put) (result .1) (L .wrote) refl refl;
-          process = put-process there (result .0 .process)
+          process = put-process (result .0 .process)
               (record { at = there; place = core .place; sequences = change (st .procs me .sequences) there (core .sequence) }) mn
               (record { stands = L .stands; held = L .held });
           as-seen = seen-same;

@@ -58,6 +58,10 @@ pub record Sequence : Type 0 where
   pub kept-value : ℕ
   pub opened : Bool
 
+-- the keep-word of kind `one`
+abbrev pub keptWord : Sequence → Versioned
+keptWord s = stamp (s .kept) (s .kept-value)
+
 abbrev pub shut : Sequence → Sequence
 shut s = record { kept = s .kept; kept-value = s .kept-value; opened = false }
 
@@ -242,15 +246,12 @@ module _ (W p : ℕ) (v : Var) (rows : ℕ → ℕ → ℕ) (s : Sequence) where
       }
   onWordSwap false new = refuses new
 
-  abbrev pub keptWord : Versioned
-  keptWord = stamp (s .kept) (s .kept-value)
-
   unfoldable pub ruleOne : Place → Core
   ruleOne idle = goes idle
   ruleOne loadReads =
       ends (record { kept = v .header .version; kept-value = v .header .value; opened = true }) (values (λ i. v .header .value)) loads
-  ruleOne validateReads = ends s (sure (same (v .header) (stamp (s .kept) (s .kept-value)))) checks
-  ruleOne (storeReads new) = onWordSwap (same (v .header) (stamp (s .kept) (s .kept-value))) new
+  ruleOne validateReads = ends s (sure (same (v .header) (keptWord s))) checks
+  ruleOne (storeReads new) = onWordSwap (same (v .header) (keptWord s)) new
   ruleOne (announces new h i) = goes idle
   ruleOne (swapsHeader new h) = goes idle
   ruleOne (copies a h i ph) = goes idle

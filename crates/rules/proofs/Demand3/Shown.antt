@@ -4,19 +4,14 @@ use mathlib.Core.List.{List, _∷_}
 use Prim.Native.Nat.{ℕ, zero, suc, _≤_, _<_}
 use native.Mathlib.Omega.{arith}
 use lib.ListN.{replicate}
-use Rattle.word.specs.Word as words
 use Rattle.rules.specs.Demand3.{mostStores, Turn, start, answer, answered, due}
 use Rattle.rules.specs.Demand3Runs as runs
 use Rattle.rules.specs.Demand3Runs.{turnOf, Meets, one4, many4, FewButOne, Demand3Runs}
 use Rattle.rules.specs.Entry as entry
 use Rattle.rules.specs.Figure2.{change, Returned, nothing, content, truth}
-use Rattle.rules.specs.GoodForm as form
 use Rattle.rules.specs.Onlooker.{seenIn}
 use Rattle.rules.specs.OwnSteps.{ownSteps}
-use Rattle.rules.specs.Processes as processes
-use Rattle.rules.specs.Refusals as refusals
 use Rattle.rules.specs.Runs.{Event, step, run}
-use Rattle.rules.specs.Sizes as sizes
 use Rattle.rules.specs.Sizes.{bits}
 use Rattle.rules.specs.Steps as steps
 use Rattle.rules.specs.declared.Answer.{Answer}
@@ -24,9 +19,10 @@ use Rattle.rules.specs.declared.Answer.the-variants.{Value, Witness, Yes
 use Rattle.rules.specs.declared.Call.the-variants.{Load, Store}
 use Rattle.rules.specs.declared.Settings.{Settings}
 use Rattle.rules.specs.declared.Start.the-variants.{Ready}
+use Rattle.rules.proofs.Cases.Computing.{schedule}
 
 -- with one variable the premise is a bound on the first
-pub one-variable : (t : Turn) → t .settings .t ≡ 1 → (n : ℕ) → seenIn (start t) (step (t .me) ∷ t .events) 0 .total ≤ n →
+one-variable : (t : Turn) → t .settings .t ≡ 1 → (n : ℕ) → seenIn (start t) (step (t .me) ∷ t .events) 0 .total ≤ n →
     (x : ℕ) → x < t .settings .t → seenIn (start t) (step (t .me) ∷ t .events) x .total ≤ n
 one-variable t e n h zero l = h
 one-variable t e n h (suc x) l = absurd (omega (arith, e))
@@ -60,7 +56,7 @@ record AllComputed : Type 0 where
   one-more-due : first (due (turnOf many4 ready-many runs.oneMore 1)) ≡ 5
 
 computed : AllComputed
-unfolding runs.backwards run ownSteps seenIn change words.word words.tagOf words.valueOf words.nextTag words.previousTag sizes.settingsFit processes.withOpen processes.withClosed processes.openCount steps.processStep form.all form.names form.valueFits form.onePlace form.manyPlace form.onePlaceOpen form.manyPlaceOpen form.headerHeld form.segmentHeld form.valueHeld form.valuesFit form.keptFit form.openFits form.processFits form.processesFit form.headersFit form.rowFits form.rowsFit form.wordsFit form.inGoodForm refusals.sizesCheck refusals.processCheck refusals.allBlank refusals.storable refusals.callCheck refusals.beginCheck refusals.stepCheck entry.setUpRule entry.beginRule entry.stepRule entry.openCountRule
+unfolding schedule runs.backwards run ownSteps seenIn change
 computed =
     record {
       ready-one = refl;

@@ -41,14 +41,14 @@ count-more m n x (suc t) h shut wide other =
         → openCount n t + cond (isOpen n t) 1 0 ≡ openCount m t + cond (isOpen m t) 1 0 + 1
     under l e = rw (other t (omega arith), e) (omega arith)
 
--- a fresh process counts 0
+-- a fresh process has none open, and counts 0
+pub none-open : (x : ℕ) → isOpen 0 x ≡ false
+none-open x = ap (λ (k : ℕ). eqb (k % 2) 1) (zero-div (2 ^ x))
+
 pub count-none : (t : ℕ) → openCount 0 t ≡ 0
 unfolding openCount
 count-none zero = refl
-count-none (suc t) = rw (count-none t, none t)
-  where
-    none : (x : ℕ) → isOpen 0 x ≡ false
-    none x = ap (λ (k : ℕ). eqb (k % 2) 1) (zero-div (2 ^ x))
+count-none (suc t) = rw (count-none t, none-open t)
 
 module _ (x t : ℕ) (h : x < t) (p : Process) where
   pub opening-counts : isOpen (p .opened) x ≡ false → openCount (opening x p .opened) t ≡ openCount (p .opened) t + 1

@@ -64,7 +64,11 @@ module _ (W p : ℕ) (v : Var) (rows : ℕ → ℕ → ℕ) (s : Sequence) (I : 
       record {
         inv = owing-inv W p v (truth (v .seen .atomic .valid p)) I;
         rely = owing-rely W p v (truth (v .seen .atomic .valid p));
-        pair = record { seq = λ o. record { old = O .old; full = O .full; count = O .count; last = O .last; others = O .others; valid = O .valid }; lag = P .lag; doing = tt };
+        pair = record {
+          seq = λ o. record { old = O .old; full = O .full; count = O .count; last = O .last; others = O .others; valid = O .valid };
+          lag = P .lag;
+          doing = tt;
+        };
         counts = tt;
         right = (
           change-same (v .seen .due) p (truth (v .seen .atomic .valid p)) ∙ ap truth (O .valid),
