@@ -12,6 +12,8 @@ pub use Rattle.rules.proofs.Cases.FormCases.{Clauses, every-clause}
 pub use Rattle.rules.proofs.Sizes.Addresses.{used-most, header-in, segment-in, announce-in, header-header, segment-segment, header-segment, header-announce, segment-announce, announce-announce}
 -- packing and unpacking undo each other
 pub use Rattle.word.proofs.Packing.{packed-unpacks, unpacked-packs}
+-- packing takes b, tag and value up to their limits, and refuses what is past them
+pub use Rattle.word.proofs.Cases.{Limits, limits}
 -- the tag after the greatest is 0, and the tag before 0 is the greatest; next and previous tag undo each other
 pub use Rattle.word.proofs.Laws.{after-greatest, before-zero, previous-next, next-previous}
 -- what opening and closing do, at every variable; they stay within the variables
