@@ -7,7 +7,7 @@ pub use Rattle.rules.proofs.Cases.Slips.{Slips, ruled-out}
 -- where two refusals apply, the one that document 01 checks first is given; values that are too great or too many get 8
 pub use Rattle.rules.proofs.Cases.RefusalOrder.{Order, in-order, Values, values-refused}
 -- each clause of good form passes at its limit, and is refused 3 past it
-pub use Rattle.rules.proofs.Cases.FormCases.{Clauses, every-clause}
+pub use Rattle.rules.proofs.Cases.FormCases.{ClauseLimits, every-clause}
 -- each address is among the words used, and different places have different addresses
 pub use Rattle.rules.proofs.Sizes.Addresses.{used-most, header-in, segment-in, announce-in, header-header, segment-segment, header-segment, header-announce, segment-announce, announce-announce}
 -- packing and unpacking undo each other

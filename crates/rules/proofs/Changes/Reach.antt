@@ -6,11 +6,7 @@ use Prim.Native.Nat.{ℕ, _<_}
 use Rattle.rules.specs.Bounds.{Sized}
 use Rattle.rules.specs.GoodForm.{placeFits}
 use Rattle.rules.specs.Sizes.{wordAt, headerAt, segmentAt, announceAt, wordsUsed, usedBy}
-use Rattle.rules.specs.declared.Kind.{Kind}
-use Rattle.rules.specs.declared.Kind.the-variants.{One, Many}
-use Rattle.rules.specs.declared.Place.{Place}
-use Rattle.rules.specs.declared.Place.the-variants.{Idle, LoadReadsWord, ValidateReadsWord, StoreSwapsWord, LoadReadsHeader, ValidateReadsHeader, StoreReadsHeader, StoreAnnounces, StoreSwapsHeader, ReadsSegment, ReadsAnnounced, SwapsSegment, ReadsSegmentAgain, ReadsHeader}
-use Rattle.rules.specs.declared.Settings.{Settings}
+use Rattle.rules.specs.Types.{Kind, One, Many, Place, Idle, LoadReadsWord, ValidateReadsWord, StoreSwapsWord, LoadReadsHeader, ValidateReadsHeader, StoreReadsHeader, StoreAnnounces, StoreSwapsHeader, ReadsSegment, ReadsAnnounced, SwapsSegment, ReadsSegmentAgain, ReadsHeader, Settings}
 use Rattle.rules.proofs.Sizes.Addresses as addresses
 use Rattle.rules.proofs.Changes.Places.{variableAt, Writes}
 use Rattle.rules.proofs.GoodForm.Held as held

@@ -14,11 +14,7 @@ use Rattle.rules.specs.Onlooker.{Seen, taken, variableAt, placeOf, answe
 use Rattle.rules.specs.Refusals.{sizesCheck}
 use Rattle.rules.specs.Runs.{State, Event, begin, step, entry, after, fresh, run}
 use Rattle.rules.specs.Sizes.{bits}
-use Rattle.rules.specs.declared.Answered.{Answered}
-use Rattle.rules.specs.declared.Call.{Call}
-use Rattle.rules.specs.declared.Check.the-variants.{Fine}
-use Rattle.rules.specs.declared.Process.{Process}
-use Rattle.rules.specs.declared.Settings.{Settings}
+use Rattle.rules.specs.Types.{Answered, Call, Fine, Process, Settings}
 use Rattle.rules.proofs.Tests.{never}
 use Rattle.rules.proofs.Demand3.Follow.{RightAnswer, BeginFollows, begin-follows, StepFollows, step-follows}
 use Rattle.rules.proofs.Demand3.Means.{BoardMeans}

@@ -20,16 +20,7 @@ use Rattle.rules.specs.Processes.{isIdle, isOpen, nobody}
 use Rattle.rules.specs.Refusals.{variableOf, lacksSequence}
 use Rattle.rules.specs.Sizes.{bits}
 use Rattle.rules.specs.Steps.{firstPlace, beginning, stepFrom, processStep}
-use Rattle.rules.specs.declared.Answer.{Answer}
-use Rattle.rules.specs.declared.Answer.the-variants.{Begun, Busy, Value, Witness, Yes, No, Refused}
-use Rattle.rules.specs.declared.Answered.{Answered}
-use Rattle.rules.specs.declared.Board.{Board}
-use Rattle.rules.specs.declared.Call.{Call}
-use Rattle.rules.specs.declared.Call.the-variants.{Load, Validate, Store}
-use Rattle.rules.specs.declared.Kind.{Kind}
-use Rattle.rules.specs.declared.Kind.the-variants.{One, Many}
-use Rattle.rules.specs.declared.Process.{Process}
-use Rattle.rules.specs.declared.Settings.{Settings}
+use Rattle.rules.specs.Types.{Answer, Begun, Busy, Value, Witness, Yes, No, AnswerRefused, Answered, Board, Call, Load, Validate, Store, Kind, One, Many, Process, Settings}
 use Rattle.rules.proofs.Changes.Frame.{framed}
 use Rattle.rules.proofs.GoodForm.Held as form
 use Rattle.rules.proofs.Refusals.Checked.{Accepted, Beginning}
@@ -55,7 +46,7 @@ RightAnswer W p o Value g = (o .since p ≡ []) × ((d : ℕ → ℕ) × (o .due
 RightAnswer W p o (Witness q) g = (m : List ℕ) × (o .since p ≡ q ∷ m)
 RightAnswer W p o Yes g = o .due p ≡ truth true
 RightAnswer W p o No g = (o .due p ≡ truth false) × Another p (o .since p)
-RightAnswer W p o (Refused r) g = Unit {0}
+RightAnswer W p o (AnswerRefused r) g = Unit {0}
 
 right-said : (W p : ℕ) (o : Seen) (l : List ℕ) (told : Told) (a : Answer) → Says W l told a → Right W p o told → RightAnswer W p o a (at-place l)
 right-said W p o l told a says-busy R = tt

@@ -12,10 +12,7 @@ use Rattle.rules.specs.Entry.{freshProcess, freshWords}
 use Rattle.rules.specs.Onlooker.{unseen}
 use Rattle.rules.specs.Processes.{nobody, noValues}
 use Rattle.rules.specs.Sizes.{bits, wordsUsed, usedBy}
-use Rattle.rules.specs.declared.Kind.{Kind}
-use Rattle.rules.specs.declared.Kind.the-variants.{One, Many}
-use Rattle.rules.specs.declared.Place.the-variants.{Idle}
-use Rattle.rules.specs.declared.Settings.{Settings}
+use Rattle.rules.specs.Types.{Kind, One, Many, Idle, Settings}
 use Rattle.rules.proofs.Sizes.Addresses.{header-in, segment-in, announce-in}
 use Rattle.rules.proofs.Demand3.Means.{BoardMeans}
 use Rattle.rules.proofs.Demand3.Invariant.Whole.{freshState}

@@ -13,12 +13,7 @@ use Rattle.rules.specs.Onlooker.{Note, taken, noteOf, seenIn}
 use Rattle.rules.specs.Refusals.{sizesCheck}
 use Rattle.rules.specs.Runs.{step}
 use Rattle.rules.specs.Sizes.{bits, between, segmentsFit, settingsFit}
-use Rattle.rules.specs.declared.Answer.{Answer}
-use Rattle.rules.specs.declared.Answer.the-variants.{Value, Witness, Yes, No}
-use Rattle.rules.specs.declared.Check.the-variants.{Fine}
-use Rattle.rules.specs.declared.Kind.{Kind}
-use Rattle.rules.specs.declared.Kind.the-variants.{One, Many}
-use Rattle.rules.specs.declared.Settings.{Settings}
+use Rattle.rules.specs.Types.{Answer, Value, Witness, Yes, No, Fine, Kind, One, Many, Settings}
 use Rattle.rules.proofs.Sizes.Sized.{sized}
 use Rattle.rules.proofs.Tests.{and-right}
 use Rattle.rules.proofs.Refusals.Checked.{stands}

@@ -5,8 +5,7 @@ use Prim.Native.Nat.{ℕ, suc, _+_}
 use lib.Dec.{eqb, ltb}
 use Rattle.rules.specs.Figure2.{change}
 use Rattle.rules.specs.Onlooker.{Note, quiet, begins, loads, checks, stores, Seen, see}
-use Rattle.rules.specs.declared.Kind.{Kind}
-use Rattle.rules.specs.declared.Kind.the-variants.{One, Many}
+use Rattle.rules.specs.Types.{Kind, One, Many}
 
 -- a word: its version and its value
 pub record Versioned : Type 0 where

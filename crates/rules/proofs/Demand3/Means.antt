@@ -9,11 +9,7 @@ use Rattle.rules.specs.Demand3.{inSequence}
 use Rattle.rules.specs.Onlooker.{Seen, variableAt}
 use Rattle.rules.specs.Processes.{isIdle, nobody}
 use Rattle.rules.specs.Sizes.{bits}
-use Rattle.rules.specs.declared.Kind.{Kind}
-use Rattle.rules.specs.declared.Kind.the-variants.{One, Many}
-use Rattle.rules.specs.declared.Place.{Place}
-use Rattle.rules.specs.declared.Process.{Process}
-use Rattle.rules.specs.declared.Settings.{Settings}
+use Rattle.rules.specs.Types.{Kind, One, Many, Place, Process, Settings}
 use Rattle.rules.proofs.Tests.{never}
 use Rattle.rules.proofs.Demand3.Invariant.Begin.{past}
 use Rattle.rules.proofs.Demand3.Invariant.Whole.{Proc, State}

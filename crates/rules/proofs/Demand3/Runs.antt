@@ -14,18 +14,8 @@ use Rattle.rules.specs.Processes.{isIdle, nobody, processAt, putProcess}
 use Rattle.rules.specs.Refusals.{sizesCheck, beginCheck, stepCheck}
 use Rattle.rules.specs.Runs.{State, Event, begin, step, fresh, run}
 use Rattle.rules.specs.Steps.{beginning, processStep}
-use Rattle.rules.specs.declared.Answered.{Answered}
-use Rattle.rules.specs.declared.Board.{Board}
-use Rattle.rules.specs.declared.Call.{Call}
-use Rattle.rules.specs.declared.Check.{Check}
-use Rattle.rules.specs.declared.Check.the-variants.{Fine, Refused}
-use Rattle.rules.specs.declared.Place.the-variants.{Idle}
-use Rattle.rules.specs.declared.Process.{Process}
-use Rattle.rules.specs.declared.SetUp.{SetUp}
-use Rattle.rules.specs.declared.Settings.{Settings}
-use Rattle.rules.specs.declared.Start.the-variants.{Ready}
+use Rattle.rules.specs.Types.{Answered, Board, Call, Check, Fine, Refused, Idle, Process, SetUp, Settings, Ready, Refusal}
 use Rattle.rules.proofs.Tests.{never}
-use Rattle.word.specs.declared.Refusal.{Refusal}
 use Rattle.rules.proofs.Refusals.Checked.{stands, Accepted, Beginning, step-accepted, step-fine, begin-accepted}
 use Rattle.rules.proofs.GoodForm.Fresh.{set-up-accepted}
 use Rattle.rules.proofs.GoodForm.Runs.{always-in-form}

@@ -14,13 +14,9 @@ use Rattle.rules.specs.OwnSteps.{ownSteps}
 use Rattle.rules.specs.Runs.{Event, step, run}
 use Rattle.rules.specs.Sizes.{bits}
 use Rattle.rules.specs.Steps as steps
-use Rattle.rules.specs.declared.Answer.{Answer}
-use Rattle.rules.specs.declared.Answer.the-variants.{Value, Witness, Yes}
-use Rattle.rules.specs.declared.Call.the-variants.{Load, Store}
-use Rattle.rules.specs.declared.Settings.{Settings}
-use Rattle.rules.specs.declared.Start.the-variants.{Ready}
 use Rattle.rules.proofs.Cases.Computing.{schedule}
 use Rattle.rules.specs.Schedules.{p7Events, p8Events}
+use Rattle.rules.specs.Types.{Answer, Value, Witness, Yes, Load, Store, Settings, Ready}
 
 -- with one variable the premise is a bound on the first
 one-variable : (t : Turn) → t .settings .t ≡ 1 → (n : ℕ) → seenIn (start t) (step (t .me) ∷ t .events) 0 .total ≤ n → AtMost n t

@@ -18,25 +18,12 @@ use Rattle.rules.specs.Figure2.{change}
 use Rattle.rules.specs.OwnSteps.{Own, counting, mostStepsBy, mostSteps, ownSteps}
 use Rattle.rules.specs.Processes.{nobody, processAt, putProcess, isIdle, keptOf}
 use Rattle.rules.specs.Sizes.{bits, wordOf, headerOf, segmentOf}
-use Rattle.rules.specs.declared.Check.{Check}
-use Rattle.rules.specs.declared.Check.the-variants.{Fine}
-use Rattle.rules.specs.declared.Copy.{Copy}
-use Rattle.rules.specs.declared.Answered.{Answered}
-use Rattle.rules.specs.declared.Board.{Board}
-use Rattle.rules.specs.declared.Call.{Call}
-use Rattle.rules.specs.declared.Call.the-variants.{Load, Validate, Store}
-use Rattle.rules.specs.declared.Kind.{Kind}
-use Rattle.rules.specs.declared.Kind.the-variants.{One, Many}
-use Rattle.rules.specs.declared.Moved.{Moved}
 use Rattle.rules.specs.Entry.{beginRule, stepBy, stepRule}
 use Rattle.rules.specs.Refusals.{sizesCheck, stepCheck}
 use Rattle.rules.specs.Runs.{State, Event, begin, step, processOf, fresh, run}
 use Rattle.rules.specs.Demand3.{Turn, before, place, own, StepsBounded}
 use Rattle.rules.specs.Steps.{firstPlace, beginning, stepFrom, processStep}
-use Rattle.rules.specs.declared.Place.{Place}
-use Rattle.rules.specs.declared.Place.the-variants.{Idle, LoadReadsWord, ValidateReadsWord, StoreSwapsWord, LoadReadsHeader, ValidateReadsHeader, StoreReadsHeader, StoreAnnounces, StoreSwapsHeader, ReadsSegment, ReadsAnnounced, SwapsSegment, ReadsSegmentAgain, ReadsHeader}
-use Rattle.rules.specs.declared.Process.{Process}
-use Rattle.rules.specs.declared.Settings.{Settings}
+use Rattle.rules.specs.Types.{Check, Fine, Copy, Answered, Board, Call, Load, Validate, Store, Kind, One, Many, Moved, Place, Idle, LoadReadsWord, ValidateReadsWord, StoreSwapsWord, LoadReadsHeader, ValidateReadsHeader, StoreReadsHeader, StoreAnnounces, StoreSwapsHeader, ReadsSegment, ReadsAnnounced, SwapsSegment, ReadsSegmentAgain, ReadsHeader, Process, Settings}
 use Rattle.rules.proofs.Tests.{never}
 use Rattle.rules.proofs.GoodForm.Held.{segment-in, clauses}
 use Rattle.rules.proofs.Sizes.Sized.{sized}

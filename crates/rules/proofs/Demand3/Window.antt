@@ -15,9 +15,7 @@ use Rattle.rules.specs.Processes.{isIdle, processAt}
 use Rattle.rules.specs.Refusals.{sizesCheck}
 use Rattle.rules.specs.Runs.{State, Event, begin, step, processOf, fresh, run}
 use Rattle.rules.specs.Sizes.{bits}
-use Rattle.rules.specs.declared.Check.the-variants.{Fine}
-use Rattle.rules.specs.declared.Process.{Process}
-use Rattle.rules.specs.declared.Settings.{Settings}
+use Rattle.rules.specs.Types.{Fine, Process, Settings}
 use Rattle.rules.proofs.GoodForm.Held.{clauses, place-in}
 use Rattle.rules.proofs.GoodForm.Keeps.{process-fits}
 use Rattle.rules.proofs.Sizes.Sized.{sized}

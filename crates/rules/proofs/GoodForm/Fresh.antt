@@ -17,15 +17,11 @@ use Rattle.rules.specs.GoodForm.{names, valueFits, keptFit, keptFitBy, o
 use Rattle.rules.specs.Processes.{nobody, processAt}
 use Rattle.rules.specs.Refusals.{sizesCheck}
 use Rattle.rules.specs.Sizes.{bits, wordsUsed, usedBy, headerAt, announceAt}
-use Rattle.rules.specs.declared.Check.{Check}
-use Rattle.rules.specs.declared.Check.the-variants.{Fine}
-use Rattle.rules.specs.declared.Kind.{Kind}
-use Rattle.rules.specs.declared.Kind.the-variants.{One, Many}
-use Rattle.rules.specs.declared.Settings.{Settings}
 use Rattle.rules.proofs.Refusals.Checked.{stands}
 use Rattle.rules.proofs.Sizes.Addresses.{header-in, announce-in}
 use Rattle.rules.proofs.GoodForm.Held.{in-form}
 use Rattle.rules.specs.InForm.{Formed, Sound, Clean, InForm}
+use Rattle.rules.specs.Types.{Check, Fine, Kind, One, Many, Settings}
 use Rattle.rules.proofs.Sizes.Sized.{sized}
 use Rattle.rules.proofs.GoodForm.Sounds.{zero-fits, no-values-fit}
 use Rattle.rules.proofs.Tests.{and-both, all-of}

@@ -17,19 +17,13 @@ use Rattle.rules.specs.GoodForm.{names, valueFits, onePlace, manyPlace, 
 use Rattle.rules.specs.Processes.{at, keptOf, withOpen, closing, gatheringAnew}
 use Rattle.rules.specs.Sizes.{bits, wordAt, headerAt, segmentAt, announceAt, wordOf, headerOf, segmentOf}
 use Rattle.rules.specs.Steps.{stepFrom}
-use Rattle.rules.specs.declared.Copy.{Copy}
-use Rattle.rules.specs.declared.Kind.the-variants.{Many}
-use Rattle.rules.specs.declared.Moved.{Moved}
-use Rattle.rules.specs.declared.Place.{Place}
-use Rattle.rules.specs.declared.Place.the-variants.{Idle, LoadReadsWord, ValidateReadsWord, StoreSwapsWord, LoadReadsHeader, ValidateReadsHeader, StoreReadsHeader, StoreAnnounces, StoreSwapsHeader, ReadsSegment, ReadsAnnounced, SwapsSegment, ReadsSegmentAgain, ReadsHeader}
-use Rattle.rules.specs.declared.Process.{Process}
-use Rattle.rules.specs.declared.Settings.{Settings}
 use Rattle.rules.proofs.Sizes.Addresses.{number-fits, header-announce, segment-announce, header-segment}
 use Rattle.rules.proofs.Branches.{branch, both-arms}
 use Rattle.rules.proofs.Sequences.Closing.{opening-opens}
 use Rattle.rules.proofs.Changes.Frame.{saves}
 use Rattle.rules.proofs.GoodForm.Held as held
 use Rattle.rules.specs.InForm.{heldHeader, Sound, Clean}
+use Rattle.rules.specs.Types.{Copy, Many, Moved, Place, Idle, LoadReadsWord, ValidateReadsWord, StoreSwapsWord, LoadReadsHeader, ValidateReadsHeader, StoreReadsHeader, StoreAnnounces, StoreSwapsHeader, ReadsSegment, ReadsAnnounced, SwapsSegment, ReadsSegmentAgain, ReadsHeader, Process, Settings}
 use Rattle.rules.proofs.GoodForm.Sounds as sounds
 use Rattle.rules.proofs.Tests.{and-left, and-both}
 use Rattle.rules.proofs.GoodForm.Written.{header-names, announced-fits, header-bounded, write-one, write-many}

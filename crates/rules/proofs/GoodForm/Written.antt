@@ -8,12 +8,10 @@ use lib.ListN.{set}
 use Rattle.rules.specs.Bounds.{Sized}
 use Rattle.rules.specs.GoodForm.{names, valueFits, wordsFit, wordsFitBy, headersFit, rowFits, rowsFit}
 use Rattle.rules.specs.Sizes.{headerAt, announceAt, headerOf, announcedOf, usedBy}
-use Rattle.rules.specs.declared.Kind.{Kind}
-use Rattle.rules.specs.declared.Kind.the-variants.{One, Many}
-use Rattle.rules.specs.declared.Settings.{Settings}
 use Rattle.rules.proofs.Sizes.Addresses.{header-in}
 use Rattle.rules.proofs.Branches.{after-set}
 use Rattle.rules.specs.InForm.{Bounded, Clean}
+use Rattle.rules.specs.Types.{Kind, One, Many, Settings}
 use Rattle.rules.proofs.Tests.{and-left, and-right, and-both, all-at, all-of}
 
 module _ (s : Settings) (words : List ℕ) (clean : Clean s words) (many : s .kind ≡ Many) where

@@ -10,13 +10,7 @@ use Rattle.rules.specs.GoodForm.{inGoodForm}
 use Rattle.rules.specs.Processes.{isIdle, processAt}
 use Rattle.rules.specs.Refusals.{refuseIf, andThen, sizesCheck, processCheck, variableOf, lacksSequence, valuesRight, callCheck, beginCheck, stepCheck}
 use Rattle.rules.specs.Sizes.{settingsFit, wordsUsed}
-use Rattle.rules.specs.declared.Board.{Board}
-use Rattle.rules.specs.declared.Call.{Call}
-use Rattle.rules.specs.declared.Check.{Check}
-use Rattle.rules.specs.declared.Check.the-variants.{Fine, Refused}
-use Rattle.rules.specs.declared.Process.{Process}
-use Rattle.rules.specs.declared.Settings.{Settings}
-use Rattle.word.specs.declared.Refusal.{Refusal}
+use Rattle.rules.specs.Types.{Board, Call, Check, Fine, Refused, Process, Settings, Refusal}
 
 refused-fine : {A : Type 0} (r : Refusal) → Refused r ≡ Fine → A
 refused-fine r e = let z : _≡_ {A = ℕ} 0 1 = cc in absurd (omega arith)

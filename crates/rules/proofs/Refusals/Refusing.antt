@@ -11,17 +11,7 @@ use Rattle.rules.specs.Processes.{processAt}
 use Rattle.rules.specs.Refusals.{sizesCheck, processCheck, beginCheck, stepCheck}
 use Rattle.rules.specs.Sizes.{settingsFit}
 use Rattle.rules.specs.Steps.{processStep}
-use Rattle.rules.specs.declared.Answer.{Answer}
-use Rattle.rules.specs.declared.Answer.the-variants.{Begun, Refused as AnswerRefused}
-use Rattle.rules.specs.declared.Board.{Board}
-use Rattle.rules.specs.declared.Call.{Call}
-use Rattle.rules.specs.declared.Check.{Check}
-use Rattle.rules.specs.declared.Check.the-variants.{Fine, Refused}
-use Rattle.rules.specs.declared.OpenCount.the-variants.{Refused as CountRefused}
-use Rattle.rules.specs.declared.Settings.{Settings}
-use Rattle.rules.specs.declared.Start.the-variants.{Refused as StartRefused}
-use Rattle.word.specs.declared.Refusal.{Refusal}
-use Rattle.word.specs.declared.Refusal.the-variants.{SettingOutsideSizes}
+use Rattle.rules.specs.Types.{Answer, Begun, AnswerRefused, Board, Call, Check, Fine, Refused, CountRefused, Settings, StartRefused, Refusal, SettingOutsideSizes}
 use Rattle.rules.proofs.Refusals.Checked.{step-accepted}
 use Rattle.rules.proofs.Changes.Frame.{framed}
 use Rattle.rules.proofs.Tests.{never}

@@ -9,7 +9,7 @@ use borrow.Author.Tests.{eqb-true, eq-eqb, ne-eqb}
 use lib.Dec.{eqb}
 use lib.Pow.{pow-pos}
 use Rattle.rules.specs.Processes.{isOpen, withOpen, withClosed, opening, closing}
-use Rattle.rules.specs.declared.Process.{Process}
+use Rattle.rules.specs.Types.{Process}
 use Rattle.rules.proofs.Sequences.Masks.{open-le, opens}
 
 module _ (n x : ℕ) (e : isOpen n x ≡ true) where

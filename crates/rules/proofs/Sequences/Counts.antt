@@ -11,7 +11,7 @@ use lib.Count.{ones, onesIn, ones-cat}
 use lib.Dec.{eqb}
 use lib.Pow.{pow-pos, mod-pow-add}
 use Rattle.rules.specs.Processes.{isOpen, openCount, opening, closing}
-use Rattle.rules.specs.declared.Process.{Process}
+use Rattle.rules.specs.Types.{Process}
 use Rattle.rules.proofs.Sequences.Closing.{opening-opens, opening-no-other, closing-closes, closing-no-other, open-open, close-shut}
 
 -- masks in which the same sequences are open count the same

@@ -9,8 +9,7 @@ use lib.Pow.{pow-mono}
 use Rattle.word.specs.Word.{valueLimit}
 use Rattle.rules.specs.Bounds.{Sized}
 use Rattle.rules.specs.Sizes.{bits, headerAt, segmentAt, announceAt, usedBy}
-use Rattle.rules.specs.declared.Kind.the-variants.{Many}
-use Rattle.rules.specs.declared.Settings.{Settings}
+use Rattle.rules.specs.Types.{Many, Settings}
 
 -- row x of d words lies whole within t rows
 row-within : {x t : ℕ} (d : ℕ) → x < t → x * d + d ≤ t * d

@@ -11,9 +11,7 @@ use Rattle.word.specs.Word.{tagLimit}
 use Rattle.rules.specs.Figure2.{change}
 use Rattle.rules.specs.Processes.{isOpen, withOpen, withClosed}
 use Rattle.rules.specs.Sizes.{bits}
-use Rattle.rules.specs.declared.Kind.{Kind}
-use Rattle.rules.specs.declared.Kind.the-variants.{One, Many}
-use Rattle.rules.specs.declared.Settings.{Settings}
+use Rattle.rules.specs.Types.{Kind, One, Many, Settings}
 use Rattle.rules.proofs.Sequences.Closing.{closes}
 use Rattle.rules.proofs.Sequences.Masks.{opens}
 use Rattle.rules.proofs.Demand3.Change.{change-id, change-all}

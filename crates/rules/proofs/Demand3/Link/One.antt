@@ -12,11 +12,7 @@ use Rattle.rules.specs.Figure4.{Step, newWord}
 use Rattle.rules.specs.Processes.{isIdle, keptOf, noValues}
 use Rattle.rules.specs.Sizes.{bits, wordOf}
 use Rattle.rules.specs.Steps.{stepFrom}
-use Rattle.rules.specs.declared.Kind.the-variants.{One}
-use Rattle.rules.specs.declared.Place.{Place}
-use Rattle.rules.specs.declared.Place.the-variants.{StoreSwapsWord}
-use Rattle.rules.specs.declared.Process.{Process}
-use Rattle.rules.specs.declared.Settings.{Settings}
+use Rattle.rules.specs.Types.{One, Place, StoreSwapsWord, Process, Settings}
 use Rattle.rules.proofs.Tests.{never}
 use Rattle.rules.proofs.Branches.{branch}
 use Rattle.rules.proofs.Demand3.Change.{each}
