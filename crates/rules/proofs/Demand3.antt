@@ -13,9 +13,13 @@ pub mod Same
 pub mod Invariant
 -- 4. the link: within a window of 2^b versions the board does what the machine does
 pub mod Link
--- 5. runs: the board stands for the machine, from the fresh one on (Fresh), through every event (Follow), so its answers
---    are right (Holds); runs that meet the premise, and one that shows it tight (Shown)
-pub mod Follow
+-- 5. runs: what it is for the board to stand for the machine (Means); it does from the fresh one on (Fresh), through every
+--    event (Follow), so all along (Along); few stores in all make every sequence short (Window), so its answers are right
+--    (Holds); runs that meet the premise, and one that shows it tight (Shown)
+pub mod Means
 pub mod Fresh
+pub mod Follow
+pub mod Along
+pub mod Window
 pub mod Holds
 pub mod Shown

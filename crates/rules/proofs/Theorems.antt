@@ -7,11 +7,13 @@ pub use Rattle.rules.proofs.Cases.Slips.{Slips, ruled-out}
 -- where two refusals apply, the one that document 01 checks first is given; values that are too great or too many get 8
 pub use Rattle.rules.proofs.Cases.RefusalOrder.{Order, in-order, Values, values-refused}
 -- each clause of good form passes at its limit, and is refused 3 past it
-pub use Rattle.rules.proofs.Cases.FormCases.{Clauses, every-clause}
+pub use Rattle.rules.proofs.Cases.FormCases.{ClauseLimits, every-clause}
 -- each address is among the words used, and different places have different addresses
 pub use Rattle.rules.proofs.Sizes.Addresses.{used-most, header-in, segment-in, announce-in, header-header, segment-segment, header-segment, header-announce, segment-announce, announce-announce}
 -- packing and unpacking undo each other
 pub use Rattle.word.proofs.Packing.{packed-unpacks, unpacked-packs}
+-- packing takes b, tag and value up to their limits, and refuses what is past them
+pub use Rattle.word.proofs.Cases.{Limits, limits}
 -- the tag after the greatest is 0, and the tag before 0 is the greatest; next and previous tag undo each other
 pub use Rattle.word.proofs.Laws.{after-greatest, before-zero, previous-next, next-previous}
 -- what opening and closing do, at every variable; they stay within the variables
@@ -20,8 +22,7 @@ pub use Rattle.rules.proofs.Sequences.Closing.{closes, close-in}
 -- opening or closing one variable's sequence changes no other's
 pub use Rattle.rules.proofs.Sequences.Closing.{opening-opens, opening-no-other, closing-closes, closing-no-other}
 -- the count of ones is the count over the variables; opening adds one, closing takes one off
-pub use Rattle.rules.proofs.Sequences.Masks.{counted}
-pub use Rattle.rules.proofs.Sequences.Counts.{count-none, opening-counts, closing-counts, reopening-counts, shut-counts}
+pub use Rattle.rules.proofs.Sequences.Counts.{counted, count-none, opening-counts, closing-counts, reopening-counts, shut-counts}
 -- a check is passed exactly if sizes, room, good form, process number and what the call needs are right
 pub use Rattle.rules.proofs.Refusals.Checked.{Stands, stands, stands-fine, Accepted, accepted, accepted-fine, step-accepted, step-fine, Beginning, begin-accepted, begin-fine}
 -- a refusal leaves board and words as found, and is answered exactly where the check gives it
@@ -49,4 +50,8 @@ pub use Rattle.rules.proofs.Changes.Leaves.{step-rest, step-length, ste
 -- at the entry point: a load's first step opens its sequence, a store's answer closes it; no other variable's changes
 pub use Rattle.rules.proofs.Changes.Leaves.{step-own, step-sequence, step-sequences}
 -- demand 3: every answer is the atomic one, under the total premise and within a window; calls are as short as document 01 says
-pub use Rattle.rules.proofs.Demand3.Holds.{holds, in-window, window-of-few}
+pub use Rattle.rules.proofs.Demand3.Holds.{holds, in-window}
+-- the total premise of demand 3 gives the window premise
+pub use Rattle.rules.proofs.Demand3.Window.{window-of-few}
+-- runs that meet demand 3's premise to the last store, and one that shows it tight
+pub use Rattle.rules.proofs.Demand3.Shown.{shown}

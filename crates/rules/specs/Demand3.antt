@@ -61,11 +61,13 @@ pub data Another (p : ℕ) : List ℕ → Type 0 where
 abbrev pub mostStores : ℕ → ℕ
 mostStores b = 2 ^ b - 2
 
--- the premise: no variable is stored with success more than 2^b - 2 times, this step counted too
+-- no variable is stored with success more than n times, this step counted too
+abbrev pub AtMost : ℕ → Turn → Type 0
+AtMost n t = (x : ℕ) → x < t .settings .t → seenIn (start t) (step (t .me) ∷ t .events) x .total ≤ n
+
+-- the premise: no variable is stored with success more than 2^b - 2 times
 abbrev pub Few : Turn → Type 0
-Few t =
-    (x : ℕ) → x < t .settings .t
-    → seenIn (start t) (step (t .me) ∷ t .events) x .total ≤ mostStores (bits (t .settings))
+Few t = AtMost (mostStores (bits (t .settings))) t
 
 -- past the first step of a load, or in a validate or a store
 abbrev pub inSequence : Place → Bool

@@ -2,22 +2,16 @@
 -- with 2^b - 1 that shows the premise to be tight.
 use mathlib.Core.Path.{_≡_}
 use mathlib.Core.List.{List, [], _∷_, _++_}
-use Prim.Native.Nat.{ℕ, _-_, _^_, _≤_, _<_}
+use Prim.Native.Nat.{ℕ, _-_, _^_}
 use lib.ListN.{replicate}
-use Rattle.rules.specs.Demand3.{Turn, start, answer, answered, Few, AnswersRight}
+use Rattle.rules.specs.Demand3.{Turn, start, answer, answered, AtMost, Few, AnswersRight}
 use Rattle.rules.specs.Entry.{setUpRule}
 use Rattle.rules.specs.Onlooker.{seenIn}
 use Rattle.rules.specs.OwnSteps.{ownSteps}
 use Rattle.rules.specs.Runs.{Event, step}
-use Rattle.rules.specs.Schedules.{settings, ll, sc, times}
+use Rattle.rules.specs.Schedules.{settings, ll, sc, times, p7Events, p8Events}
 use Rattle.rules.specs.Sizes.{bits}
-use Rattle.rules.specs.declared.Answer.{Answer}
-use Rattle.rules.specs.declared.Answer.the-variants.{Value, Witness, Yes}
-use Rattle.rules.specs.declared.Call.{Call}
-use Rattle.rules.specs.declared.Call.the-variants.{Load, Store}
-use Rattle.rules.specs.declared.Kind.the-variants.{One, Many}
-use Rattle.rules.specs.declared.Settings.{Settings}
-use Rattle.rules.specs.declared.Start.the-variants.{Ready}
+use Rattle.rules.specs.Types.{Answer, Value, Witness, Yes, Call, Load, Store, One, Many, Settings, Ready}
 
 -- a schedule lists its events in the order of time; a turn wants the last first
 unfoldable pub backwards : List Event → List Event → List Event
@@ -58,20 +52,6 @@ roundMany v =
     ll 0 0 ∷ step 0 ∷ step 0 ∷ step 0
     ∷ sc 0 0 v ∷ step 0 ∷ step 0 ∷ step 0 ∷ step 0 ∷ step 0 ∷ step 0 ∷ step 0 ∷ []
 
--- P7 up to process 1's sixth step, P8 up to its third
-abbrev pub p7 : List Event
-p7 =
-    ll 0 0 ∷ step 0 ∷ step 0 ∷ step 0 ∷ sc 0 0 5 ∷ step 0 ∷ step 0 ∷ step 0
-    ∷ ll 1 0 ∷ step 1 ∷ step 1
-    ∷ step 0 ∷ step 0 ∷ step 0 ∷ step 0 ∷ ll 0 0 ∷ step 0 ∷ step 0 ∷ step 0 ∷ sc 0 0 9 ∷ step 0 ∷ step 0
-    ∷ step 1 ∷ step 1 ∷ step 1 ∷ []
-
-abbrev pub p8 : List Event
-p8 =
-    ll 0 0 ∷ step 0 ∷ step 0 ∷ step 0 ∷ ll 1 0 ∷ step 1
-    ∷ sc 0 0 5 ∷ step 0 ∷ step 0 ∷ step 0 ∷ step 0 ∷ step 0 ∷ step 0 ∷ step 0
-    ∷ step 1 ∷ []
-
 -- process 1 takes a load's first step, 14 stores follow, and it goes on
 abbrev pub overtaken : List Event
 overtaken = ll 1 0 ∷ step 1 ∷ times 14 (roundMany 5) ++ (step 1 ∷ [])
@@ -99,17 +79,15 @@ helped =
 
 -- the premise with one store more
 abbrev pub FewButOne : Turn → Type 0
-FewButOne t =
-    (x : ℕ) → x < t .settings .t
-    → seenIn (start t) (step (t .me) ∷ t .events) x .total ≤ 2 ^ bits (t .settings) - 1
+FewButOne t = AtMost (2 ^ bits (t .settings) - 1) t
 
 pub record Demand3Runs : Type 0 where
-  pub p7-meets : Meets many4 p7 1 1 Value 5
-  pub p8-meets : Meets many4 p8 1 1 (Witness 0) 0
+  pub p7-meets : Meets many4 p7Events 1 1 Value 5
+  pub p8-meets : Meets many4 p8Events 1 1 (Witness 0) 0
   pub overtaken-meets : Meets many4 overtaken 1 14 (Witness 0) 0
   pub fourteenth-meets : Meets one4 fourteenth 0 14 Yes 0
   -- the step bounds are met: P7's load takes 1 + 5W, a store that another has helped takes 2 + 6W
-  pub slowest-load : Takes many4 p7 1 Value (Load 0) 6
+  pub slowest-load : Takes many4 p7Events 1 Value (Load 0) 6
   pub slowest-store : Takes many4 helped 0 Yes (Store 0) 8
   -- with 2^b - 1 stores demand 3 is false
   pub tight : AnswersRight FewButOne → ⊥

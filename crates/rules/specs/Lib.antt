@@ -1,18 +1,23 @@
+-- The names of the types
 pub mod Types
+-- What is right: the sizes, a process changed, Figures 4 and 6, the step from each place, good form, the refusals, the entry rules
 pub mod Sizes
-pub mod Bounds
 pub mod Processes
 pub mod Figure4
 pub mod Figure6
 pub mod Steps
 pub mod GoodForm
-pub mod InForm
 pub mod Refusals
 pub mod Entry
+-- What contracts behind the entry points ask for
+pub mod Bounds
+pub mod InForm
+-- What is printed of an answer; runs, and P1 to P10
 pub mod Text
 pub mod Answers
 pub mod Runs
 pub mod Schedules
+-- Demand 3
 pub mod Figure2
 pub mod Onlooker
 pub mod OwnSteps

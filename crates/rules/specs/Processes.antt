@@ -70,12 +70,12 @@ gatheringAnew p = record { place = p .place; opened = p .opened; keep = p .keep;
 abbrev pub goesOn : Place → Process → Moved
 goesOn place p = record { process = at place p; answer = Busy; values = noValues }
 
--- the last step of a call gives its answer and makes its process idle
-abbrev pub ends : Answer → Process → Moved
-ends answer p = record { process = at Idle p; answer = answer; values = noValues }
-
+-- the last step of a call gives its answer, and values with it, and makes its process idle
 abbrev pub endsWith : Answer → List ℕ → Process → Moved
 endsWith answer values p = record { process = at Idle p; answer = answer; values = values }
+
+abbrev pub ends : Answer → Process → Moved
+ends answer p = endsWith answer noValues p
 
 -- past the end of a list of processes, what the walk of the code takes too
 abbrev pub nobody : Process

@@ -58,6 +58,23 @@ last (r ∷ q ∷ rest) = last (q ∷ rest)
 abbrev pub small : State
 small = board 2 Many 1 4 1
 
+-- P7: process 0 loads and begins a store of 5; three steps, so the header is swapped; process 1 begins a load; two steps;
+-- process 0 ends its store in four steps, loads 5 in three, begins a store of 9 and takes two steps; process 1 takes its third,
+-- fourth and fifth step
+abbrev pub p7Events : List Event
+p7Events =
+    ll 0 0 ∷ step 0 ∷ step 0 ∷ step 0 ∷ sc 0 0 5 ∷ step 0 ∷ step 0 ∷ step 0
+    ∷ ll 1 0 ∷ step 1 ∷ step 1
+    ∷ step 0 ∷ step 0 ∷ step 0 ∷ step 0 ∷ ll 0 0 ∷ step 0 ∷ step 0 ∷ step 0 ∷ sc 0 0 9 ∷ step 0 ∷ step 0
+    ∷ step 1 ∷ step 1 ∷ step 1 ∷ []
+
+-- P8: process 0 has loaded; process 1 takes a load's first step; process 0 stores 5, in seven steps; process 1 takes its second
+abbrev pub p8Events : List Event
+p8Events =
+    ll 0 0 ∷ step 0 ∷ step 0 ∷ step 0 ∷ ll 1 0 ∷ step 1
+    ∷ sc 0 0 5 ∷ step 0 ∷ step 0 ∷ step 0 ∷ step 0 ∷ step 0 ∷ step 0 ∷ step 0
+    ∷ step 1 ∷ []
+
 pub record Schedules : Type 0 where
   pub p1 : packRule 48 3 5 ≡ Word 196613
   pub p2 : (nextTag 4 15 ≡ 0) × (previousTag 4 0 ≡ 15)
@@ -72,24 +89,14 @@ pub record Schedules : Type 0 where
   pub p6 :
       (started 2 One 1 3 1 ≡ StartRefused SettingOutsideSizes) × (started 2 One 1 49 1 ≡ StartRefused SettingOutsideSizes)
       × (started 2 One 1 4 1 ≡ Ready) × (started 2 One 1 48 1 ≡ Ready)
-  -- process 0 loads and begins a store of 5; three steps, so the header is swapped; process 1 begins a load; two steps;
-  -- process 0 ends its store in four steps, loads 5 in three, begins a store of 9 and takes two steps;
   -- process 1 answers 5 at its sixth step
-  pub p7 : rows small
-      (ll 0 0 ∷ step 0 ∷ step 0 ∷ step 0 ∷ sc 0 0 5 ∷ step 0 ∷ step 0 ∷ step 0
-      ∷ ll 1 0 ∷ step 1 ∷ step 1
-      ∷ step 0 ∷ step 0 ∷ step 0 ∷ step 0 ∷ ll 0 0 ∷ step 0 ∷ step 0 ∷ step 0 ∷ sc 0 0 9 ∷ step 0 ∷ step 0
-      ∷ step 1 ∷ step 1 ∷ step 1 ∷ step 1 ∷ [])
+  pub p7 : rows small (p7Events ++ (step 1 ∷ []))
       ≡ begun 0 ∷ busy 1 ∷ busy 1 ∷ row Value 1 (0 ∷ []) ∷ begun 1 ∷ busy 1 ∷ busy 1 ∷ busy 1
       ∷ begun 0 ∷ busy 1 ∷ busy 1
       ∷ busy 1 ∷ busy 1 ∷ busy 1 ∷ row Yes 0 [] ∷ begun 0 ∷ busy 1 ∷ busy 1 ∷ row Value 1 (5 ∷ []) ∷ begun 1 ∷ busy 1 ∷ busy 1
       ∷ busy 1 ∷ busy 1 ∷ busy 1 ∷ row Value 1 (5 ∷ []) ∷ []
-  -- process 0 has loaded; process 1 takes a load's first step; process 0 stores 5, yes after seven steps;
-  -- process 1 answers witness 0 at its third step
-  pub p8 : rows small
-      (ll 0 0 ∷ step 0 ∷ step 0 ∷ step 0 ∷ ll 1 0 ∷ step 1
-      ∷ sc 0 0 5 ∷ step 0 ∷ step 0 ∷ step 0 ∷ step 0 ∷ step 0 ∷ step 0 ∷ step 0
-      ∷ step 1 ∷ step 1 ∷ [])
+  -- process 0 answers yes after seven steps, process 1 witness 0 at its third
+  pub p8 : rows small (p8Events ++ (step 1 ∷ []))
       ≡ begun 0 ∷ busy 1 ∷ busy 1 ∷ row Value 1 (0 ∷ []) ∷ begun 0 ∷ busy 1
       ∷ begun 1 ∷ busy 1 ∷ busy 1 ∷ busy 1 ∷ busy 1 ∷ busy 1 ∷ busy 1 ∷ row Yes 0 []
       ∷ busy 1 ∷ row (Witness 0) 1 (0 ∷ []) ∷ []

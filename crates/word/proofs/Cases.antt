@@ -1,46 +1,30 @@
--- P1, P2 and P6's numbers, by computation from the definitions. Assumes nothing.
+-- Packing at its limits, by computation from the rule: b, tag and value at the last number that stands and at the first that
+-- is refused. P1 and P2 of document 01 stand with its other schedules, in `rules`. Assumes nothing.
 use mathlib.Core.Path.{_≡_, refl}
-use Rattle.word.specs.Word.{word, tagOf, valueOf, nextTag, previousTag}
+use Rattle.word.specs.Word.{word}
 use Rattle.word.specs.Packing.{packRule, unpackRule}
 use Rattle.word.specs.declared.Packed.the-variants.{Word, Refused as NotPacked}
-use Rattle.word.specs.declared.Unpacked.the-variants.{Parts, Refused as NotUnpacked}
+use Rattle.word.specs.declared.Unpacked.the-variants.{Refused as NotUnpacked}
 use Rattle.word.specs.declared.Refusal.the-variants.{SettingOutsideSizes, ValueTooGreat}
 
-packs : packRule 48 3 5 ≡ Word 196613
+pub record Limits : Type 0 where
+  pub bits-3 : packRule 3 0 0 ≡ NotPacked SettingOutsideSizes
+  pub bits-4 : packRule 4 15 0 ≡ Word 17293822569102704640
+  pub bits-48 : packRule 48 0 65535 ≡ Word 65535
+  pub bits-49 : packRule 49 0 0 ≡ NotPacked SettingOutsideSizes
+  pub tag-16 : packRule 4 16 0 ≡ NotPacked ValueTooGreat
+  pub value-65536 : packRule 48 0 65536 ≡ NotPacked ValueTooGreat
+  pub unpacking-3 : unpackRule 3 0 ≡ NotUnpacked SettingOutsideSizes
+
+pub limits : Limits
 unfolding word
-packs = refl
-
-unpacks : unpackRule 48 196613 ≡ Parts 3 5
-unfolding tagOf valueOf
-unpacks = refl
-
-after-fifteen : nextTag 4 15 ≡ 0
-unfolding nextTag
-after-fifteen = refl
-
-before-zero : previousTag 4 0 ≡ 15
-unfolding previousTag
-before-zero = refl
-
-three-refused : packRule 3 0 0 ≡ NotPacked SettingOutsideSizes
-three-refused = refl
-
-forty-nine-refused : packRule 49 0 0 ≡ NotPacked SettingOutsideSizes
-forty-nine-refused = refl
-
-four-stands : packRule 4 15 0 ≡ Word 17293822569102704640
-unfolding word
-four-stands = refl
-
-forty-eight-stands : packRule 48 0 65535 ≡ Word 65535
-unfolding word
-forty-eight-stands = refl
-
-value-refused : packRule 48 0 65536 ≡ NotPacked ValueTooGreat
-value-refused = refl
-
-tag-refused : packRule 4 16 0 ≡ NotPacked ValueTooGreat
-tag-refused = refl
-
-unpacking-refused : unpackRule 3 0 ≡ NotUnpacked SettingOutsideSizes
-unpacking-refused = refl
+limits =
+    record {
+      bits-3 = refl;
+      bits-4 = refl;
+      bits-48 = refl;
+      bits-49 = refl;
+      tag-16 = refl;
+      value-65536 = refl;
+      unpacking-3 = refl;
+    }

@@ -1,3 +1,4 @@
+-- What is right of words: the refusals and their numbers, the word, and packing.
 pub mod Refusals
 pub mod Word
 pub mod Packing

@@ -1,6 +1,6 @@
 use Rattle.rules.specs.GoodForm as form
 use borrow.Author.Tests.{ltb-true}
-use Rattle.rules.proofs.Sequences.Masks.{counted}
+use Rattle.rules.proofs.Sequences.Counts.{counted}
 use Rattle.calls.proofs.sequences_open.Statement.{statement}
 use Rattle.calls.proofs.sequences_open.Tie as tie
 

@@ -5,19 +5,11 @@ use mathlib.Core.Bool.{true}
 use mathlib.Core.List.{List}
 use Prim.Native.Nat.{ℕ, _-_, _^_}
 use lib.ListN.{replicate, set}
-use Rattle.word.specs.declared.Refusal.the-variants.{NotInGoodForm}
 use Rattle.rules.specs.Entry.{freshProcess, freshBoard}
 use Rattle.rules.specs.Processes.{at, opening, keeping, gathering, noValues, putProcess}
 use Rattle.rules.specs.Refusals.{processCheck}
 use Rattle.rules.specs.Schedules.{settings}
-use Rattle.rules.specs.declared.Check.{Check}
-use Rattle.rules.specs.declared.Check.the-variants.{Fine, Refused}
-use Rattle.rules.specs.declared.Copy.{Copy}
-use Rattle.rules.specs.declared.Kind.{Kind}
-use Rattle.rules.specs.declared.Kind.the-variants.{One, Many}
-use Rattle.rules.specs.declared.Place.{Place}
-use Rattle.rules.specs.declared.Place.the-variants.{LoadReadsWord, ValidateReadsWord, StoreSwapsWord, LoadReadsHeader, ValidateReadsHeader, StoreReadsHeader, StoreAnnounces, StoreSwapsHeader, ReadsSegment, ReadsAnnounced, SwapsSegment, ReadsSegmentAgain, ReadsHeader}
-use Rattle.rules.specs.declared.Process.{Process}
+use Rattle.rules.specs.Types.{NotInGoodForm, Check, Fine, Refused, Copy, Kind, One, Many, Place, LoadReadsWord, ValidateReadsWord, StoreSwapsWord, LoadReadsHeader, ValidateReadsHeader, StoreReadsHeader, StoreAnnounces, StoreSwapsHeader, ReadsSegment, ReadsAnnounced, SwapsSegment, ReadsSegmentAgain, ReadsHeader, Process}
 use Rattle.rules.proofs.Cases.Computing.{schedule}
 
 -- what the open count's check says of a board with this process, over these words
@@ -55,7 +47,7 @@ storing v =
 abbrev Bounds : Check → Check → Type 0
 Bounds within past = (within ≡ Fine) × (past ≡ Refused NotInGoodForm)
 
-pub record Clauses : Type 0 where
+pub record ClauseLimits : Type 0 where
   -- the place is one the kind has
   pub kind-one : Bounds (checked One (at (LoadReadsWord 0) freshProcess) zeros) (checked One (at (LoadReadsHeader 0) freshProcess) zeros)
   pub kind-many : Bounds (shut (LoadReadsHeader 0)) (shut (LoadReadsWord 0))
@@ -90,7 +82,7 @@ pub record Clauses : Type 0 where
   pub reads-again : Bounds (opened (ReadsSegmentAgain (copy 0 0))) (shut (ReadsSegmentAgain (copy 0 0)))
   pub reads-header : Bounds (opened (ReadsHeader (copy 0 0) 0)) (shut (ReadsHeader (copy 0 0) 0))
 
-pub every-clause : Clauses
+pub every-clause : ClauseLimits
 unfolding schedule
 every-clause =
     record {

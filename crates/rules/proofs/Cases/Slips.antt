@@ -3,12 +3,10 @@
 -- words used. Assumes nothing.
 use mathlib.Core.Path.{_≡_, refl}
 use mathlib.Core.List.{[], _∷_}
-use Rattle.word.specs.declared.Refusal.the-variants.{NoOpenSequence}
 use Rattle.rules.specs.Entry.{setUpRule}
 use Rattle.rules.specs.Runs.{step, rows}
 use Rattle.rules.specs.Schedules.{settings, ll, sc, row, begun, busy, small}
-use Rattle.rules.specs.declared.Answer.the-variants.{Value, Witness, Yes, No, Refused}
-use Rattle.rules.specs.declared.Kind.the-variants.{One, Many}
+use Rattle.rules.specs.Types.{NoOpenSequence, Value, Witness, Yes, No, AnswerRefused, One, Many}
 use Rattle.rules.proofs.Cases.Computing.{schedule}
 
 pub record Slips : Type 0 where
@@ -20,7 +18,7 @@ pub record Slips : Type 0 where
       ∷ step 0 ∷ step 0 ∷ sc 0 0 9 ∷ step 0 ∷ sc 0 0 9 ∷ [])
       ≡ begun 0 ∷ busy 1 ∷ busy 1 ∷ row Value 1 (0 ∷ []) ∷ begun 0 ∷ busy 1
       ∷ begun 1 ∷ busy 1 ∷ busy 1 ∷ busy 1 ∷ busy 1 ∷ busy 1 ∷ busy 1 ∷ row Yes 0 []
-      ∷ busy 1 ∷ row (Witness 1) 1 (1 ∷ []) ∷ begun 1 ∷ row No 0 [] ∷ row (Refused NoOpenSequence) 0 (7 ∷ []) ∷ []
+      ∷ busy 1 ∷ row (Witness 1) 1 (1 ∷ []) ∷ begun 1 ∷ row No 0 [] ∷ row (AnswerRefused NoOpenSequence) 0 (7 ∷ []) ∷ []
   -- both load; both stand before the header's swap; process 1 swaps, so process 0's swap fails, answers no and closes
   pub failed-swap : rows small
       (ll 0 0 ∷ step 0 ∷ step 0 ∷ step 0 ∷ ll 1 0 ∷ step 1 ∷ step 1 ∷ step 1

@@ -11,20 +11,14 @@ use lib.Seq.{getD-set-other}
 use Rattle.word.specs.Word.{tagOf, previousTag}
 use Rattle.rules.specs.Figure4.{Step}
 use Rattle.rules.specs.Figure6.{saving, copyOn, copyCutShort}
+use Rattle.rules.specs.Onlooker.{taken}
 use Rattle.rules.specs.Processes.{isIdle, isOpen, withClosed, keptOf, opening, closing}
 use Rattle.rules.specs.Sizes.{bits, wordAt, headerAt, segmentAt, announceAt, wordOf, headerOf, segmentOf}
 use Rattle.rules.specs.Steps.{stepFrom}
-use Rattle.rules.specs.declared.Answer.{Answer}
-use Rattle.rules.specs.declared.Answer.the-variants.{Yes, No}
-use Rattle.rules.specs.declared.Copy.{Copy}
-use Rattle.rules.specs.declared.Moved.{Moved}
-use Rattle.rules.specs.declared.Place.{Place}
-use Rattle.rules.specs.declared.Place.the-variants.{Idle, LoadReadsWord, ValidateReadsWord, StoreSwapsWord, LoadReadsHeader, ValidateReadsHeader, StoreReadsHeader, StoreAnnounces, StoreSwapsHeader, ReadsSegment, ReadsAnnounced, SwapsSegment, ReadsSegmentAgain, ReadsHeader}
-use Rattle.rules.specs.declared.Process.{Process}
-use Rattle.rules.specs.declared.Settings.{Settings}
+use Rattle.rules.specs.Types.{Answer, Yes, No, Copy, Moved, Place, Idle, LoadReadsWord, ValidateReadsWord, StoreSwapsWord, LoadReadsHeader, ValidateReadsHeader, StoreReadsHeader, StoreAnnounces, StoreSwapsHeader, ReadsSegment, ReadsAnnounced, SwapsSegment, ReadsSegmentAgain, ReadsHeader, Process, Settings}
 use Rattle.rules.proofs.Branches.{branch, both-arms}
 use Rattle.rules.proofs.Sequences.Closing.{opening-opens, opening-no-other, closing-closes, closing-no-other}
-use Rattle.rules.proofs.Changes.Places.{variableAt, Writes, isRefusal, isBusy, openAfter}
+use Rattle.rules.proofs.Changes.Places.{variableAt, Writes, isBusy, openAfter}
 
 -- a process p and what a step from place l makes of it
 pub record Own (l : Place) (p : Process) (moved : Moved) : Type 0 where
@@ -33,7 +27,7 @@ pub record Own (l : Place) (p : Process) (moved : Moved) : Type 0 where
   pub sequences : (y : ℕ) → (y ≡ variableAt l → ⊥) → isOpen (moved .process .opened) y ≡ isOpen (p .opened) y
   pub keeps : (y : ℕ) → (y ≡ variableAt l → ⊥) → keptOf y (moved .process) ≡ keptOf y p
   pub values : moved .process .values ≡ p .values
-  pub answers : isRefusal (moved .answer) ≡ false
+  pub answers : taken (moved .answer) ≡ true
 
 -- the words before and after a step that may write where W says
 pub record Touched (W : ℕ → Type 0) (words after : List ℕ) : Type 0 where
@@ -45,7 +39,7 @@ pub record Framed (l : Place) (W : ℕ → Type 0) (p : Process) (words : List �
   pub touched : Touched W words (step .1)
 
 module _ (l : Place) (p : Process) (moved : Moved)
-    (values : moved .process .values ≡ p .values) (answers : isRefusal (moved .answer) ≡ false) where
+    (values : moved .process .values ≡ p .values) (answers : taken (moved .answer) ≡ true) where
   -- nothing of the process but its place and what it gathered has changed
   stays : moved .process .opened ≡ p .opened → moved .process .keep ≡ p .keep
       → openAfter l (moved .answer) (isOpen (p .opened) (variableAt l)) ≡ isOpen (p .opened) (variableAt l) → Own l p moved
@@ -83,7 +77,7 @@ module _ (l : Place) (p : Process) (moved : Moved)
         answers = answers;
       }
 
-yes-or-no : (test : Bool) → isRefusal (cond test Yes No) ≡ false
+yes-or-no : (test : Bool) → taken (cond test Yes No) ≡ true
 yes-or-no true = refl
 yes-or-no false = refl
 
@@ -150,7 +144,7 @@ module _ {l : Place} {W : ℕ → Type 0} {p : Process} {words : List ℕ} {move
 -- every place but idle
 pub framed : (l : Place) (s : Settings) (p : Process) (me : ℕ) (words : List ℕ) → isIdle l ≡ false
     → Framed l (Writes s me l) p words (stepFrom l s p me words)
-framed Idle s p me words e = reads (stays Idle p _ refl e refl refl refl)
+framed Idle s p me words e = reads (stays Idle p _ refl (sym e) refl refl refl)
 framed (LoadReadsWord x) s p me words e =
     reads (opens (LoadReadsWord x) p _ refl refl (wordOf x words) refl refl refl)
 framed (ValidateReadsWord x) s p me words e =

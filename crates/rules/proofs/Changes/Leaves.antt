@@ -11,14 +11,7 @@ use Rattle.rules.specs.Processes.{isOpen, nobody, processAt}
 use Rattle.rules.specs.Refusals.{beginCheck, stepCheck}
 use Rattle.rules.specs.Sizes.{wordOf, headerOf, segmentOf, announcedOf, wordsUsed}
 use Rattle.rules.specs.Steps.{processStep}
-use Rattle.rules.specs.declared.Answer.{Answer}
-use Rattle.rules.specs.declared.Board.{Board}
-use Rattle.rules.specs.declared.Call.{Call}
-use Rattle.rules.specs.declared.Check.{Check}
-use Rattle.rules.specs.declared.Check.the-variants.{Fine, Refused}
-use Rattle.rules.specs.declared.Kind.the-variants.{One, Many}
-use Rattle.rules.specs.declared.Place.{Place}
-use Rattle.rules.specs.declared.Process.{Process}
+use Rattle.rules.specs.Types.{Answer, Board, Call, Check, Fine, Refused, One, Many, Place, Process}
 use Rattle.rules.proofs.Refusals.Checked.{Accepted, step-accepted}
 use Rattle.rules.proofs.Changes.Frame.{framed}
 use Rattle.rules.proofs.Changes.Places.{variableAt, openAfter}

@@ -4,11 +4,7 @@ use mathlib.Core.Bool.{Bool, true, false, cond, not, _&&_}
 use Prim.Native.Nat.{ℕ}
 pub use Rattle.rules.specs.Onlooker.{variableAt}
 use Rattle.rules.specs.Sizes.{wordAt, headerAt, segmentAt, announceAt}
-use Rattle.rules.specs.declared.Answer.{Answer}
-use Rattle.rules.specs.declared.Answer.the-variants.{Begun, Busy, Value, Witness, Yes, No, Refused}
-use Rattle.rules.specs.declared.Place.{Place}
-use Rattle.rules.specs.declared.Place.the-variants.{Idle, LoadReadsWord, ValidateReadsWord, StoreSwapsWord, LoadReadsHeader, ValidateReadsHeader, StoreReadsHeader, StoreAnnounces, StoreSwapsHeader, ReadsSegment, ReadsAnnounced, SwapsSegment, ReadsSegmentAgain, ReadsHeader}
-use Rattle.rules.specs.declared.Settings.{Settings}
+use Rattle.rules.specs.Types.{Answer, Begun, Busy, Value, Witness, Yes, No, AnswerRefused, Place, Idle, LoadReadsWord, ValidateReadsWord, StoreSwapsWord, LoadReadsHeader, ValidateReadsHeader, StoreReadsHeader, StoreAnnounces, StoreSwapsHeader, ReadsSegment, ReadsAnnounced, SwapsSegment, ReadsSegmentAgain, ReadsHeader, Settings}
 
 -- a is the address that a step from the place may write; the other places write nothing
 abbrev pub Writes : Settings → ℕ → Place → ℕ → Type 0
@@ -26,15 +22,6 @@ Writes s me (ReadsAnnounced c read) a = ⊥
 Writes s me (SwapsSegment c read announced) a = a ≡ segmentAt s (c .variable) (c .segment)
 Writes s me (ReadsSegmentAgain c) a = ⊥
 Writes s me (ReadsHeader c value) a = ⊥
-
-abbrev pub isRefusal : Answer → Bool
-isRefusal Begun = false
-isRefusal Busy = false
-isRefusal Value = false
-isRefusal (Witness q) = false
-isRefusal Yes = false
-isRefusal No = false
-isRefusal (Refused r) = true
 
 -- the first step of a load
 abbrev pub isLoadsFirst : Place → Bool
@@ -77,7 +64,7 @@ isBusy Value = false
 isBusy (Witness q) = false
 isBusy Yes = false
 isBusy No = false
-isBusy (Refused r) = false
+isBusy (AnswerRefused r) = false
 
 -- a load opens (or reopens) its sequence at its first step, witness or not; a store closes it at its answer, yes or no
 abbrev pub openAfter : Place → Answer → Bool → Bool

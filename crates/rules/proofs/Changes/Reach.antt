@@ -6,15 +6,10 @@ use Prim.Native.Nat.{ℕ, _<_}
 use Rattle.rules.specs.Bounds.{Sized}
 use Rattle.rules.specs.GoodForm.{placeFits}
 use Rattle.rules.specs.Sizes.{wordAt, headerAt, segmentAt, announceAt, wordsUsed, usedBy}
-use Rattle.rules.specs.declared.Kind.{Kind}
-use Rattle.rules.specs.declared.Kind.the-variants.{One, Many}
-use Rattle.rules.specs.declared.Place.{Place}
-use Rattle.rules.specs.declared.Place.the-variants.{Idle, LoadReadsWord, ValidateReadsWord, StoreSwapsWord, LoadReadsHeader, ValidateReadsHeader, StoreReadsHeader, StoreAnnounces, StoreSwapsHeader, ReadsSegment, ReadsAnnounced, SwapsSegment, ReadsSegmentAgain, ReadsHeader}
-use Rattle.rules.specs.declared.Settings.{Settings}
+use Rattle.rules.specs.Types.{Kind, One, Many, Place, Idle, LoadReadsWord, ValidateReadsWord, StoreSwapsWord, LoadReadsHeader, ValidateReadsHeader, StoreReadsHeader, StoreAnnounces, StoreSwapsHeader, ReadsSegment, ReadsAnnounced, SwapsSegment, ReadsSegmentAgain, ReadsHeader, Settings}
 use Rattle.rules.proofs.Sizes.Addresses as addresses
 use Rattle.rules.proofs.Changes.Places.{variableAt, Writes}
 use Rattle.rules.proofs.GoodForm.Held as held
-use Rattle.rules.proofs.GoodForm.Written.{kind-one, kind-many, one-not-many}
 
 -- the word at address a is one that a step from place l may write
 pub data Where (s : Settings) (me : ℕ) (l : Place) (a : ℕ) : Type 0 where
@@ -47,22 +42,22 @@ module _ (s : Settings) (opened me : ℕ) where
   place-writes (ValidateReadsWord x) a ok w = absurd w
   place-writes (StoreSwapsWord x) a ok w =
       let one = held.one-open s opened x ok in
-      word (kind-one s x one) (held.one-in s x one) w
+      word (held.kind-one s x one) (held.one-in s x one) w
   place-writes (LoadReadsHeader x) a ok w = absurd w
   place-writes (ValidateReadsHeader x) a ok w = absurd w
   place-writes (StoreReadsHeader x) a ok w = absurd w
   place-writes (StoreAnnounces x h i) a ok w =
       let at-x = held.held s opened x h (held.segment s opened x h i ok) in
-      row i (kind-many s x at-x) (held.segment-in s opened x h i ok) w
+      row i (held.kind-many s x at-x) (held.segment-in s opened x h i ok) w
   place-writes (StoreSwapsHeader x h) a ok w =
       let at-x = held.held s opened x h ok in
-      header (kind-many s x at-x) (held.many-in s x at-x) w
+      header (held.kind-many s x at-x) (held.many-in s x at-x) w
   place-writes (ReadsSegment c) a ok w = absurd w
   place-writes (ReadsAnnounced c read) a ok w = absurd w
   place-writes (SwapsSegment c read announced) a ok w =
       let copy = held.held-copy s opened announced c ok in
       let at-x = held.held s opened (c .variable) (c .header) (held.segment s opened (c .variable) (c .header) (c .segment) copy) in
-      segment (c .segment) (kind-many s (c .variable) at-x) (held.many-in s (c .variable) at-x)
+      segment (c .segment) (held.kind-many s (c .variable) at-x) (held.many-in s (c .variable) at-x)
       (held.segment-in s opened (c .variable) (c .header) (c .segment) copy) w
   place-writes (ReadsSegmentAgain c) a ok w = absurd w
   place-writes (ReadsHeader c value) a ok w = absurd w
@@ -81,33 +76,30 @@ module _ (s : Settings) (z : Sized s) (me : ℕ) (mine : me < s .n) (l : Place) 
   writes-used a (header many h e) = subst (λ (k : ℕ). k < wordsUsed s) (sym e) (used-many many (addresses.header-in s z h))
   writes-used a (segment i many h hi e) = subst (λ (k : ℕ). k < wordsUsed s) (sym e) (used-many many (addresses.segment-in s z h hi))
 
-never : {A : Type 0} {k : Kind} → k ≡ One → k ≡ Many → A
-never {A} {k} one many = absurd (one-not-many k one many)
-
 module _ (s : Settings) (me : ℕ) (l : Place) where
   -- of another variable not its word, its header nor a segment
   pub writes-no-word : (y : ℕ) → (y ≡ variableAt l → ⊥) → s .kind ≡ One → Where s me l (wordAt y) → ⊥
   writes-no-word y ne one (word k h e) = ne e
-  writes-no-word y ne one (row i many h e) = never one many
-  writes-no-word y ne one (header many h e) = never one many
-  writes-no-word y ne one (segment i many h hi e) = never one many
+  writes-no-word y ne one (row i many h e) = held.one-not-many one many
+  writes-no-word y ne one (header many h e) = held.one-not-many one many
+  writes-no-word y ne one (segment i many h hi e) = held.one-not-many one many
 
   pub writes-no-header : (y : ℕ) → y < s .t → (y ≡ variableAt l → ⊥) → s .kind ≡ Many → Where s me l (headerAt s y) → ⊥
-  writes-no-header y hy ne many (word one h e) = never one many
+  writes-no-header y hy ne many (word one h e) = held.one-not-many one many
   writes-no-header y hy ne many (row i k h e) = addresses.header-announce s y me i hy e
   writes-no-header y hy ne many (header k h e) = ne (addresses.header-header s y (variableAt l) e)
   writes-no-header y hy ne many (segment i k h hi e) = addresses.header-segment s y (variableAt l) i hi e
 
   pub writes-no-segment : (y j : ℕ) → y < s .t → j < s .w → (y ≡ variableAt l → ⊥) → s .kind ≡ Many
       → Where s me l (segmentAt s y j) → ⊥
-  writes-no-segment y j hy hj ne many (word one h e) = never one many
+  writes-no-segment y j hy hj ne many (word one h e) = held.one-not-many one many
   writes-no-segment y j hy hj ne many (row i k h e) = addresses.segment-announce s y me j i hy hj e
   writes-no-segment y j hy hj ne many (header k h e) = addresses.header-segment s (variableAt l) y j hj (sym e)
   writes-no-segment y j hy hj ne many (segment i k h hi e) = ne (addresses.segment-segment s y (variableAt l) j i hj hi e .0)
 
   -- nor another process's announce row
   pub writes-no-row : (q j : ℕ) → j < s .w → (q ≡ me → ⊥) → s .kind ≡ Many → Where s me l (announceAt s q j) → ⊥
-  writes-no-row q j hj ne many (word one h e) = never one many
+  writes-no-row q j hj ne many (word one h e) = held.one-not-many one many
   writes-no-row q j hj ne many (row i k h e) = ne (addresses.announce-announce s q me j i hj h e .0)
   writes-no-row q j hj ne many (header k h e) = addresses.header-announce s (variableAt l) q j h (sym e)
   writes-no-row q j hj ne many (segment i k h hi e) = addresses.segment-announce s (variableAt l) q i j h hi (sym e)

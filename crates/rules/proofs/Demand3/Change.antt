@@ -1,20 +1,11 @@
--- Functions from numbers, changed at one place; and cases of a test. Assumes nothing.
+-- Functions from numbers, changed at one place. Assumes nothing.
 use mathlib.Core.Path.{_≡_, refl, ap, fun-ext}
 use mathlib.Core.Logic.{_≢_}
 use mathlib.Core.Bool.{Bool, true, false, cond}
 use Prim.Native.Nat.{ℕ}
-use native.Mathlib.Omega.{arith}
 use lib.Dec.{eqb}
 use borrow.Author.Tests.{eqb-true, eqb-false, eq-eqb, ne-eqb}
 use Rattle.rules.specs.Figure2.{change}
-
-pub never : {A : Type 0} → true ≡ false → A
-never e = let z : _≡_ {A = ℕ} 0 1 = cc in absurd (omega arith)
-
--- what holds on either side of a test
-pub by-test {ℓ} : {A : Type ℓ} (P : A → Type 0) (t : Bool) (a b : A) → (t ≡ true → P a) → (t ≡ false → P b) → P (cond t a b)
-by-test P true a b f g = f refl
-by-test P false a b f g = g refl
 
 pub change-same {ℓ} : {A : Type ℓ} (f : ℕ → A) (k : ℕ) (v : A) → change f k v k ≡ v
 unfolding change

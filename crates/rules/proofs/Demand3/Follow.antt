@@ -1,4 +1,5 @@
--- The whole board stands for a state of the machine over versions, and every begin and step keeps it so. Assumes nothing.
+-- Every begin and step of a board that stands for a state of the machine gives one that stands for the machine's next state; and
+-- a step's answer is right. Assumes nothing.
 use mathlib.Core.Path.{_≡_, refl, ap, sym, _∙_}
 use mathlib.Core.Bool.{true, false, cond}
 use mathlib.Core.List.{List, [], _∷_}
@@ -13,28 +14,18 @@ use Rattle.rules.specs.Demand3.{Another, inSequence}
 use Rattle.rules.specs.Entry.{stepped}
 use Rattle.rules.specs.Figure2.{change, content, truth}
 use Rattle.rules.specs.Figure4.{Step}
-use Rattle.rules.specs.GoodForm.{placeFits, processFits}
+use Rattle.rules.specs.GoodForm.{processFits}
 use Rattle.rules.specs.Onlooker.{Seen, Note, begins, see, taken, variableAt, noteAt, newValues}
 use Rattle.rules.specs.Processes.{isIdle, isOpen, nobody}
 use Rattle.rules.specs.Refusals.{variableOf, lacksSequence}
 use Rattle.rules.specs.Sizes.{bits}
 use Rattle.rules.specs.Steps.{firstPlace, beginning, stepFrom, processStep}
-use Rattle.rules.specs.declared.Answer.{Answer}
-use Rattle.rules.specs.declared.Answer.the-variants.{Begun, Busy, Value, Witness, Yes, No, Refused}
-use Rattle.rules.specs.declared.Answered.{Answered}
-use Rattle.rules.specs.declared.Board.{Board}
-use Rattle.rules.specs.declared.Call.{Call}
-use Rattle.rules.specs.declared.Call.the-variants.{Load, Validate, Store}
-use Rattle.rules.specs.declared.Kind.{Kind}
-use Rattle.rules.specs.declared.Kind.the-variants.{One, Many}
-use Rattle.rules.specs.declared.Place.{Place}
-use Rattle.rules.specs.declared.Place.the-variants.{Idle, LoadReadsWord, ValidateReadsWord, StoreSwapsWord, LoadReadsHeader, ValidateReadsHeader, StoreReadsHeader, StoreAnnounces, StoreSwapsHeader, ReadsSegment, ReadsAnnounced, SwapsSegment, ReadsSegmentAgain, ReadsHeader}
-use Rattle.rules.specs.declared.Process.{Process}
-use Rattle.rules.specs.declared.Settings.{Settings}
+use Rattle.rules.specs.Types.{Answer, Begun, Busy, Value, Witness, Yes, No, AnswerRefused, Answered, Board, Call, Load, Validate, Store, Kind, One, Many, Process, Settings}
+use Rattle.rules.proofs.Changes.Frame.{framed}
 use Rattle.rules.proofs.GoodForm.Held as form
 use Rattle.rules.proofs.Refusals.Checked.{Accepted, Beginning}
 use Rattle.rules.proofs.GoodForm.Keeps.{process-fits}
-use Rattle.rules.proofs.Demand3.Change.{never, change-same, change-id, change-all, change-both}
+use Rattle.rules.proofs.Demand3.Change.{change-same, change-id, change-all, change-both}
 use Rattle.rules.proofs.Demand3.Invariant.Begin.{firstOf, Has, past}
 use Rattle.rules.proofs.Demand3.Invariant.Kinds.{Right, Counts, width, VarInvK, PairK, FineK}
 use Rattle.rules.proofs.Demand3.Invariant.Whole.{Proc, State, Inv, outAt, apply, begun, fine, stepped as machine-stepped, begin-kept}
@@ -42,73 +33,10 @@ use Rattle.rules.proofs.Demand3.Link.Keeping.{Held}
 use Rattle.rules.proofs.Demand3.Link.Many.{link-many}
 use Rattle.rules.proofs.Demand3.Link.Memory.{MemK, WroteK, put-kind}
 use Rattle.rules.proofs.Demand3.Link.One.{link-one}
-use Rattle.rules.proofs.Demand3.Link.Stands.{at-place, StandsOne, one-idle, one-load, one-validate, one-store, Stands, at-idle, at-load, at-validate, at-store, at-announce, at-swap, at-segment, at-announced, at-segment-swap, at-again, at-header, StandsK, Says, says-busy, says-values, says-witness, says-yes, says-no, Linked}
+use Rattle.rules.proofs.Demand3.Link.Stands.{at-place, one-load, one-validate, one-store, at-load, at-validate, at-store, StandsK, Says, says-busy, says-values, says-witness, says-yes, says-no, Linked}
 use Rattle.rules.proofs.Demand3.Machine.{Told, Place as Stand, idle, Sequence, Var, none, Core, Out, anew, rules}
 use Rattle.rules.proofs.Demand3.Runs as runs
-use Rattle.rules.proofs.Demand3.Steps.{nearer}
-
--- a process of the board stands for one of the machine
-pub record ProcessMeans (k : Kind) (s : Settings) (r : Proc) (q : Process) : Type 0 where
-  pub stands : StandsK k (bits s) (r .at) (q .values) (q .gathered) (q .place) (r .place)
-  pub held : Held k s (r .sequences) (q .keep) (q .opened)
-
--- so do all, with the words and what was seen
-pub record BoardMeans (s : Settings) (st : State) (processes : List Process) (words : List ℕ) (seen : ℕ → Seen) : Type 0 where
-  pub sixteen : length processes ≡ 16
-  pub memory : MemK (s .kind) s (st .vars) (st .rows) words
-  pub process : (p : ℕ) → p < s .n → ProcessMeans (s .kind) s (st .procs p) (getD processes p nobody)
-  pub as-seen : (x : ℕ) → seen x ≡ st .vars x .seen
-
--- places
-pub place-in : (s : Settings) (m : ℕ) (place : Place) → placeFits s m place ≡ true → isIdle place ≡ false → variableAt place < s .t
-place-in s m Idle f i = never i
-place-in s m (LoadReadsWord x) f i = form.one-in s x f
-place-in s m (ValidateReadsWord x) f i = form.one-in s x (form.one-open s m x f)
-place-in s m (StoreSwapsWord x) f i = form.one-in s x (form.one-open s m x f)
-place-in s m (LoadReadsHeader x) f i = form.many-in s x f
-place-in s m (ValidateReadsHeader x) f i = form.many-in s x (form.many-open s m x f)
-place-in s m (StoreReadsHeader x) f i = form.many-in s x (form.many-open s m x f)
-place-in s m (StoreAnnounces x header j) f i = form.many-in s x (form.held s m x header (form.segment s m x header j f))
-place-in s m (StoreSwapsHeader x header) f i = form.many-in s x (form.held s m x header f)
-place-in s m (ReadsSegment c) f i = form.many-in s (c .variable)
-    (form.held s m (c .variable) (c .header) (form.segment s m (c .variable) (c .header) (c .segment) f))
-place-in s m (ReadsAnnounced c read) f i = form.many-in s (c .variable)
-    (form.held s m (c .variable) (c .header) (form.segment s m (c .variable) (c .header) (c .segment) f))
-place-in s m (SwapsSegment c read u) f i = form.many-in s (c .variable)
-    (form.held s m (c .variable) (c .header) (form.segment s m (c .variable) (c .header) (c .segment) (form.held-copy s m u c f)))
-place-in s m (ReadsSegmentAgain c) f i = form.many-in s (c .variable)
-    (form.held s m (c .variable) (c .header) (form.segment s m (c .variable) (c .header) (c .segment) f))
-place-in s m (ReadsHeader c u) f i = form.many-in s (c .variable)
-    (form.held s m (c .variable) (c .header) (form.segment s m (c .variable) (c .header) (c .segment) (form.held-copy s m u c f)))
-
--- what both tell of a place
-pub record Alike (x : ℕ) (place : Place) (stand : Stand) : Type 0 where
-  pub variable : isIdle place ≡ false → variableAt place ≡ x
-  pub sequence : past stand ≡ inSequence place
-  pub idle' : isIdle place ≡ true → stand ≡ idle
-
-alike-one : {x : ℕ} {new : List ℕ} {place : Place} {stand : Stand} → StandsOne x new place stand → Alike x place stand
-alike-one one-idle = record { variable = λ e. never e; sequence = refl; idle' = λ e. refl }
-alike-one one-load = record { variable = λ e. refl; sequence = refl; idle' = λ e. never (sym e) }
-alike-one one-validate = record { variable = λ e. refl; sequence = refl; idle' = λ e. never (sym e) }
-alike-one one-store = record { variable = λ e. refl; sequence = refl; idle' = λ e. never (sym e) }
-
-alike-many : {b x : ℕ} {new got : List ℕ} {place : Place} {stand : Stand} → Stands b x new got place stand → Alike x place stand
-alike-many at-idle = record { variable = λ e. never e; sequence = refl; idle' = λ e. refl }
-alike-many at-load = record { variable = λ e. refl; sequence = refl; idle' = λ e. never (sym e) }
-alike-many at-validate = record { variable = λ e. refl; sequence = refl; idle' = λ e. never (sym e) }
-alike-many at-store = record { variable = λ e. refl; sequence = refl; idle' = λ e. never (sym e) }
-alike-many (at-announce M) = record { variable = λ e. refl; sequence = refl; idle' = λ e. never (sym e) }
-alike-many (at-swap M) = record { variable = λ e. refl; sequence = refl; idle' = λ e. never (sym e) }
-alike-many (at-segment M G) = record { variable = λ e. refl; sequence = refl; idle' = λ e. never (sym e) }
-alike-many (at-announced M G y) = record { variable = λ e. refl; sequence = refl; idle' = λ e. never (sym e) }
-alike-many (at-segment-swap M G y) = record { variable = λ e. refl; sequence = refl; idle' = λ e. never (sym e) }
-alike-many (at-again M G) = record { variable = λ e. refl; sequence = refl; idle' = λ e. never (sym e) }
-alike-many (at-header M G) = record { variable = λ e. refl; sequence = refl; idle' = λ e. never (sym e) }
-
-pub alike : (k : Kind) (s : Settings) (r : Proc) (q : Process) → ProcessMeans k s r q → Alike (r .at) (q .place) (r .place)
-alike One s r q m = alike-one (m .stands)
-alike Many s r q m = alike-many (m .stands)
+use Rattle.rules.proofs.Demand3.Means.{ProcessMeans, BoardMeans, alike}
 
 -- an answer of the board is right, by what was seen of its variable
 abbrev pub RightAnswer : ℕ → ℕ → Seen → Answer → (ℕ → ℕ) → Type 0
@@ -118,7 +46,7 @@ RightAnswer W p o Value g = (o .since p ≡ []) × ((d : ℕ → ℕ) × (o .due
 RightAnswer W p o (Witness q) g = (m : List ℕ) × (o .since p ≡ q ∷ m)
 RightAnswer W p o Yes g = o .due p ≡ truth true
 RightAnswer W p o No g = (o .due p ≡ truth false) × Another p (o .since p)
-RightAnswer W p o (Refused r) g = Unit {0}
+RightAnswer W p o (AnswerRefused r) g = Unit {0}
 
 right-said : (W p : ℕ) (o : Seen) (l : List ℕ) (told : Told) (a : Answer) → Says W l told a → Right W p o told → RightAnswer W p o a (at-place l)
 right-said W p o l told a says-busy R = tt
@@ -128,7 +56,8 @@ right-said W p o l told a says-yes R = R .0
 right-said W p o l told a says-no R = (R .0, R .1 refl)
 
 -- the step of either kind
-link : (k : Kind) (s : Settings) → Sized s → (p x : ℕ) (vars : ℕ → Var) (rows : ℕ → ℕ → ℕ) (sequences : ℕ → Sequence) (q : Process) (words : List ℕ) →
+link : (k : Kind) (s : Settings) → Sized s → (p x : ℕ) (vars : ℕ → Var) (rows : ℕ → ℕ → ℕ) (sequences : ℕ → Sequence)
+    (q : Process) (words : List ℕ) →
     p < s .n → x < s .t → MemK k s vars rows words → Held k s sequences (q .keep) (q .opened) → processFits s q ≡ true →
     VarInvK k (s .w) (vars x) → (stand : Stand) → StandsK k (bits s) x (q .values) (q .gathered) (q .place) stand → isIdle (q .place) ≡ false →
     PairK k (s .w) p (vars x) (rows p) (sequences x) stand → (past stand ≡ true → length (vars x .seen .since p) + 2 ≤ tagLimit (bits s)) →
@@ -170,9 +99,9 @@ module _ (s : Settings) (z : Sized s) (st : State) (I : Inv (s .kind) (s .w) st)
   sees x note a = cond (taken a) (change seen x (see me note (seen x))) seen
 
   -- the process's own part is put back
-  put-process : (x : ℕ) (q′ : Process) (r : Proc) → me < s .n → ProcessMeans (s .kind) s r q′ →
+  put-process : (q′ : Process) (r : Proc) → me < s .n → ProcessMeans (s .kind) s r q′ →
       (p : ℕ) → p < s .n → ProcessMeans (s .kind) s (change (st .procs) me r p) (getD (set processes me q′) p nobody)
-  put-process x q′ r mn h = change-all (λ p a. p < s .n → ProcessMeans (s .kind) s a (getD (set processes me q′) p nobody)) (st .procs) me r
+  put-process q′ r mn h = change-all (λ p a. p < s .n → ProcessMeans (s .kind) s a (getD (set processes me q′) p nobody)) (st .procs) me r
       (λ l. rw (getD-set-same processes me q′ nobody (omega (arith, R .sixteen, z .n-most))) h)
       (λ p n l. rw (getD-set-other processes me p q′ nobody n) (R .process p l))
 
@@ -197,7 +126,7 @@ module _ (s : Settings) (z : Sized s) (st : State) (I : Inv (s .kind) (s .w) st)
           memory = rw (change-id (st .rows) me) at
               (put-kind (s .kind) s z (st .vars) (st .rows) words (R .memory) me x (a .mine) (t .variable) (anew me (st .vars x)) none words
               (wrote-none (s .kind) s me x words) refl refl);
-          process = put-process x (beginning s call values q)
+          process = put-process (beginning s call values q)
               (record { at = x; place = firstOf call (at-place values); sequences = st .procs me .sequences }) (a .mine)
               (record { stands = first-stands (s .kind) (bits s) call values (q .gathered); held = mine .held });
           as-seen = change-both (λ y a c. a ≡ c .seen) seen (st .vars) x (see me begins (seen x)) (anew me (st .vars x))
@@ -249,13 +178,13 @@ module _ (s : Settings) (z : Sized s) (st : State) (I : Inv (s .kind) (s .w) st)
       same-variable = alike (s .kind) s (st .procs me) q mine .variable still
 
       xt : there < s .t
-      xt = rw same-variable at (place-in s (q .opened) (q .place) (form.clauses s q fits .place) still)
+      xt = rw same-variable at (form.place-in s (q .opened) (q .place) (form.clauses s q fits .place) still)
 
       pair : PairK (s .kind) (s .w) me (st .vars there) (st .rows me) (st .procs me .sequences there) (st .procs me .place)
       pair = rw (eq-eqb there there refl) at (I .pair me there)
 
       got : taken (result .0 .answer) ≡ true
-      got = nearer s q me words (z .w-least) (q .opened) (q .place) (form.clauses s q fits .place) still .answers
+      got = framed (q .place) s q me words still .own .answers
 
       short : past (st .procs me .place) ≡ true → length (st .vars there .seen .since me) + 2 ≤ tagLimit (bits s)
       short e = rw (← (R .as-seen there), ← same-variable) (B got (sym (alike (s .kind) s (st .procs me) q mine .sequence) ∙ e))
@@ -289,7 +218,7 @@ module _ (s : Settings) (z : Sized s) (st : State) (I : Inv (s .kind) (s .w) st)
           sixteen = length-set processes me (result .0 .process) ∙ R .sixteen;
           memory = put-kind (s .kind) s z (st .vars) (st .rows) words (R .memory) me there mn xt
               (out .var) (core .put) (result .1) (L .wrote) refl refl;
-          process = put-process there (result .0 .process)
+          process = put-process (result .0 .process)
               (record { at = there; place = core .place; sequences = change (st .procs me .sequences) there (core .sequence) }) mn
               (record { stands = L .stands; held = L .held });
           as-seen = seen-same;

@@ -10,26 +10,15 @@ use lib.Seq.{getD-set-other}
 use borrow.Author.Tests.{leb-true, leb-false}
 use Rattle.rules.specs.Entry.{freshProcess, freshBoard, freshWords, setUpBy, setUpRule, refusing, beginBy, beginRule, stepped, stepBy, stepRule}
 use Rattle.rules.specs.Onlooker.{placeOf}
-use Rattle.rules.specs.Processes.{isIdle, nobody, noValues, processAt, putProcess}
+use Rattle.rules.specs.Processes.{isIdle, nobody, processAt, putProcess}
 use Rattle.rules.specs.Refusals.{sizesCheck, beginCheck, stepCheck}
 use Rattle.rules.specs.Runs.{State, Event, begin, step, fresh, run}
 use Rattle.rules.specs.Steps.{beginning, processStep}
-use Rattle.rules.specs.declared.Answer.the-variants.{Begun}
-use Rattle.rules.specs.declared.Answered.{Answered}
-use Rattle.rules.specs.declared.Board.{Board}
-use Rattle.rules.specs.declared.Call.{Call}
-use Rattle.rules.specs.declared.Check.{Check}
-use Rattle.rules.specs.declared.Check.the-variants.{Fine, Refused}
-use Rattle.rules.specs.declared.Place.the-variants.{Idle}
-use Rattle.rules.specs.declared.Process.{Process}
-use Rattle.rules.specs.declared.SetUp.{SetUp}
-use Rattle.rules.specs.declared.Settings.{Settings}
-use Rattle.rules.specs.declared.Start.the-variants.{Ready}
-use Rattle.word.specs.declared.Refusal.{Refusal}
+use Rattle.rules.specs.Types.{Answered, Board, Call, Check, Fine, Refused, Idle, Process, SetUp, Settings, Ready, Refusal}
+use Rattle.rules.proofs.Tests.{never}
 use Rattle.rules.proofs.Refusals.Checked.{stands, Accepted, Beginning, step-accepted, step-fine, begin-accepted}
 use Rattle.rules.proofs.GoodForm.Fresh.{set-up-accepted}
 use Rattle.rules.proofs.GoodForm.Runs.{always-in-form}
-use Rattle.rules.proofs.Demand3.Change.{never}
 
 -- what holds of a step that is taken, and of every refusal, holds of every step
 pub step-cases : (P : Answered × List ℕ → Type 0) (board : Board) (me : ℕ) (words : List ℕ) →
@@ -43,13 +32,9 @@ step-cases P board me words f g = by (stepCheck board me words) refl
     by Fine e = let a = step-accepted board me words e in f (a .0) (a .1)
     by (Refused r) e = g r
 
+-- what an accepted begin gives
 abbrev pub begun : Board → ℕ → Call → List ℕ → Answered
-begun board me call values =
-    record {
-      board = putProcess board me (beginning (board .settings) call values (processAt board me));
-      answer = Begun;
-      values = noValues;
-    }
+begun board me call values = beginBy Fine board me call values
 
 pub begin-cases : (P : Answered → Type 0) (board : Board) (me : ℕ) (call : Call) (values words : List ℕ) →
     (Accepted board me words → Beginning (board .settings) (processAt board me) call values → P (begun board me call values)) →
@@ -71,7 +56,7 @@ ready-fine s lent = by (sizesCheck s (length lent))
     by (Refused r) e = let z : _≡_ {A = ℕ} 0 1 = cc in absurd (omega arith)
 
 -- a board of these settings, with its 16 processes
-pub record Shaped (s : Settings) (board : Board) : Type 0 where
+pub record BoardOf (s : Settings) (board : Board) : Type 0 where
   pub settings : board .settings ≡ s
   pub sixteen : length (board .processes) ≡ 16
 
@@ -87,7 +72,7 @@ module _ (s : Settings) (lent : List ℕ) (ready : sizesCheck s (length lent) �
   pub fresh-is : fresh s lent ≡ record { board = freshBoard s; words = freshWords s lent }
   fresh-is = ap stateOf (set-up-accepted s lent ready)
 
-  pub run-shaped : (events : List Event) → Shaped s (run (fresh s lent) events .board)
+  pub run-shaped : (events : List Event) → BoardOf s (run (fresh s lent) events .board)
   run-shaped events =
       let r = always-in-form s lent ready events in
       record { settings = r .settings; sixteen = r .form .shaped .processes }

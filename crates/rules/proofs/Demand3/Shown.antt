@@ -1,33 +1,25 @@
 -- Runs that meet demand 3's premise, computed from the rules; and one past it that has a wrong answer. Assumes nothing.
 use mathlib.Core.Path.{_≡_, refl, ap}
 use mathlib.Core.List.{List, _∷_}
-use Prim.Native.Nat.{ℕ, zero, suc, _≤_, _<_}
+use Prim.Native.Nat.{ℕ, zero, suc, _≤_}
 use native.Mathlib.Omega.{arith}
 use lib.ListN.{replicate}
-use Rattle.word.specs.Word as words
-use Rattle.rules.specs.Demand3.{mostStores, Turn, start, answer, answered, due}
+use Rattle.rules.specs.Demand3.{AtMost, mostStores, Turn, start, answer, answered, due}
 use Rattle.rules.specs.Demand3Runs as runs
 use Rattle.rules.specs.Demand3Runs.{turnOf, Meets, one4, many4, FewButOne, Demand3Runs}
 use Rattle.rules.specs.Entry as entry
 use Rattle.rules.specs.Figure2.{change, Returned, nothing, content, truth}
-use Rattle.rules.specs.GoodForm as form
 use Rattle.rules.specs.Onlooker.{seenIn}
 use Rattle.rules.specs.OwnSteps.{ownSteps}
-use Rattle.rules.specs.Processes as processes
-use Rattle.rules.specs.Refusals as refusals
 use Rattle.rules.specs.Runs.{Event, step, run}
-use Rattle.rules.specs.Sizes as sizes
 use Rattle.rules.specs.Sizes.{bits}
 use Rattle.rules.specs.Steps as steps
-use Rattle.rules.specs.declared.Answer.{Answer}
-use Rattle.rules.specs.declared.Answer.the-variants.{Value, Witness, Yes}
-use Rattle.rules.specs.declared.Call.the-variants.{Load, Store}
-use Rattle.rules.specs.declared.Settings.{Settings}
-use Rattle.rules.specs.declared.Start.the-variants.{Ready}
+use Rattle.rules.proofs.Cases.Computing.{schedule}
+use Rattle.rules.specs.Schedules.{p7Events, p8Events}
+use Rattle.rules.specs.Types.{Answer, Value, Witness, Yes, Load, Store, Settings, Ready}
 
 -- with one variable the premise is a bound on the first
-pub one-variable : (t : Turn) → t .settings .t ≡ 1 → (n : ℕ) → seenIn (start t) (step (t .me) ∷ t .events) 0 .total ≤ n →
-    (x : ℕ) → x < t .settings .t → seenIn (start t) (step (t .me) ∷ t .events) x .total ≤ n
+one-variable : (t : Turn) → t .settings .t ≡ 1 → (n : ℕ) → seenIn (start t) (step (t .me) ∷ t .events) 0 .total ≤ n → AtMost n t
 one-variable t e n h zero l = h
 one-variable t e n h (suc x) l = absurd (omega (arith, e))
 
@@ -46,13 +38,13 @@ first (truth t) = 0
 record AllComputed : Type 0 where
   ready-one : entry.setUpRule one4 (replicate 4 0) .0 .start ≡ Ready
   ready-many : entry.setUpRule many4 (replicate 4 0) .0 .start ≡ Ready
-  p7 : Computed (turnOf many4 ready-many runs.p7 1) 1 Value 5
-  p8 : Computed (turnOf many4 ready-many runs.p8 1) 1 (Witness 0) 0
+  p7 : Computed (turnOf many4 ready-many p7Events 1) 1 Value 5
+  p8 : Computed (turnOf many4 ready-many p8Events 1) 1 (Witness 0) 0
   overtaken : Computed (turnOf many4 ready-many runs.overtaken 1) 14 (Witness 0) 0
   fourteenth : Computed (turnOf one4 ready-one runs.fourteenth 0) 14 Yes 0
   -- 15 stores: the load answers 9, and Figure 2's variable holds 5
   one-more : Computed (turnOf many4 ready-many runs.oneMore 1) 15 Value 9
-  p7-took : ownSteps (start (turnOf many4 ready-many runs.p7 1)) (step 1 ∷ turnOf many4 ready-many runs.p7 1 .events) 1
+  p7-took : ownSteps (start (turnOf many4 ready-many p7Events 1)) (step 1 ∷ turnOf many4 ready-many p7Events 1 .events) 1
       ≡ record { call = Load 0; steps = 6 }
   helped : answer (turnOf many4 ready-many runs.helped 0) ≡ Yes
   helped-took : ownSteps (start (turnOf many4 ready-many runs.helped 0)) (step 0 ∷ turnOf many4 ready-many runs.helped 0 .events) 0
@@ -60,7 +52,7 @@ record AllComputed : Type 0 where
   one-more-due : first (due (turnOf many4 ready-many runs.oneMore 1)) ≡ 5
 
 computed : AllComputed
-unfolding runs.backwards run ownSteps seenIn change words.word words.tagOf words.valueOf words.nextTag words.previousTag sizes.settingsFit processes.withOpen processes.withClosed processes.openCount steps.processStep form.all form.names form.valueFits form.onePlace form.manyPlace form.onePlaceOpen form.manyPlaceOpen form.headerHeld form.segmentHeld form.valueHeld form.valuesFit form.keptFit form.openFits form.processFits form.processesFit form.headersFit form.rowFits form.rowsFit form.wordsFit form.inGoodForm refusals.sizesCheck refusals.processCheck refusals.allBlank refusals.storable refusals.callCheck refusals.beginCheck refusals.stepCheck entry.setUpRule entry.beginRule entry.stepRule entry.openCountRule
+unfolding schedule runs.backwards run ownSteps seenIn change
 computed =
     record {
       ready-one = refl;
@@ -90,8 +82,8 @@ meets s e ready events me n a first c l = record {
 pub shown : Demand3Runs
 shown =
     record {
-      p7-meets = meets many4 refl (computed .ready-many) runs.p7 1 1 Value 5 (computed .p7) (omega arith);
-      p8-meets = meets many4 refl (computed .ready-many) runs.p8 1 1 (Witness 0) 0 (computed .p8) (omega arith);
+      p7-meets = meets many4 refl (computed .ready-many) p7Events 1 1 Value 5 (computed .p7) (omega arith);
+      p8-meets = meets many4 refl (computed .ready-many) p8Events 1 1 (Witness 0) 0 (computed .p8) (omega arith);
       overtaken-meets = meets many4 refl (computed .ready-many) runs.overtaken 1 14 (Witness 0) 0 (computed .overtaken) (omega arith);
       fourteenth-meets = meets one4 refl (computed .ready-one) runs.fourteenth 0 14 Yes 0 (computed .fourteenth) (omega arith);
       slowest-load = record { ready = computed .ready-many; answers = computed .p7 .answers; took = computed .p7-took };

@@ -18,36 +18,24 @@ use Rattle.rules.specs.Figure2.{change}
 use Rattle.rules.specs.OwnSteps.{Own, counting, mostStepsBy, mostSteps, ownSteps}
 use Rattle.rules.specs.Processes.{nobody, processAt, putProcess, isIdle, keptOf}
 use Rattle.rules.specs.Sizes.{bits, wordOf, headerOf, segmentOf}
-use Rattle.rules.specs.declared.Answer.the-variants.{Yes, No}
-use Rattle.rules.specs.declared.Check.{Check}
-use Rattle.rules.specs.declared.Check.the-variants.{Fine}
-use Rattle.rules.specs.declared.Copy.{Copy}
-use Rattle.rules.specs.declared.Answered.{Answered}
-use Rattle.rules.specs.declared.Board.{Board}
-use Rattle.rules.specs.declared.Call.{Call}
-use Rattle.rules.specs.declared.Call.the-variants.{Load, Validate, Store}
-use Rattle.rules.specs.declared.Kind.{Kind}
-use Rattle.rules.specs.declared.Kind.the-variants.{One, Many}
-use Rattle.rules.specs.declared.Moved.{Moved}
 use Rattle.rules.specs.Entry.{beginRule, stepBy, stepRule}
 use Rattle.rules.specs.Refusals.{sizesCheck, stepCheck}
 use Rattle.rules.specs.Runs.{State, Event, begin, step, processOf, fresh, run}
 use Rattle.rules.specs.Demand3.{Turn, before, place, own, StepsBounded}
 use Rattle.rules.specs.Steps.{firstPlace, beginning, stepFrom, processStep}
-use Rattle.rules.specs.declared.Place.{Place}
-use Rattle.rules.specs.declared.Place.the-variants.{Idle, LoadReadsWord, ValidateReadsWord, StoreSwapsWord, LoadReadsHeader, ValidateReadsHeader, StoreReadsHeader, StoreAnnounces, StoreSwapsHeader, ReadsSegment, ReadsAnnounced, SwapsSegment, ReadsSegmentAgain, ReadsHeader}
-use Rattle.rules.specs.declared.Process.{Process}
-use Rattle.rules.specs.declared.Settings.{Settings}
+use Rattle.rules.specs.Types.{Check, Fine, Copy, Answered, Board, Call, Load, Validate, Store, Kind, One, Many, Moved, Place, Idle, LoadReadsWord, ValidateReadsWord, StoreSwapsWord, LoadReadsHeader, ValidateReadsHeader, StoreReadsHeader, StoreAnnounces, StoreSwapsHeader, ReadsSegment, ReadsAnnounced, SwapsSegment, ReadsSegmentAgain, ReadsHeader, Process, Settings}
+use Rattle.rules.proofs.Tests.{never}
 use Rattle.rules.proofs.GoodForm.Held.{segment-in, clauses}
 use Rattle.rules.proofs.Sizes.Sized.{sized}
 use Rattle.rules.proofs.Refusals.Checked.{Accepted, step-accepted}
+use Rattle.rules.proofs.Changes.Frame.{framed}
 use Rattle.rules.proofs.Branches.{branch, both-arms}
 use Rattle.rules.proofs.GoodForm.Keeps.{process-fits}
-use Rattle.rules.proofs.Demand3.Change.{never, change-all}
-use Rattle.rules.proofs.Demand3.Runs.{begin-cases, step-cases, ready-fine, Shaped, fresh-idle, fresh-is, run-shaped, accepts}
+use Rattle.rules.proofs.Demand3.Change.{change-all}
+use Rattle.rules.proofs.Demand3.Runs.{begin-cases, step-cases, ready-fine, BoardOf, fresh-idle, fresh-is, run-shaped, accepts}
 
 -- the steps that are left from a place, at most; w segments
-abbrev pub left : ℕ → Place → ℕ
+abbrev left : ℕ → Place → ℕ
 left w Idle = 0
 left w (LoadReadsWord x) = 1
 left w (ValidateReadsWord x) = 1
@@ -63,61 +51,56 @@ left w (SwapsSegment c read announced) = 5 * (w - suc (c .segment)) + 3
 left w (ReadsSegmentAgain c) = 5 * (w - suc (c .segment)) + 2
 left w (ReadsHeader c value) = 5 * (w - suc (c .segment)) + 1
 
--- a step brings its process nearer the end, and answers no refusal
-pub record Nearer (w : ℕ) (place : Place) (r : Step) : Type 0 where
-  pub closer : left w (r .0 .process .place) < left w place
-  pub answers : taken (r .0 .answer) ≡ true
-
-yes-or-no : (t : Bool) → taken (cond t Yes No) ≡ true
-yes-or-no true = refl
-yes-or-no false = refl
+-- a step brings its process nearer the end
+abbrev Nearer : ℕ → Place → Step → Type 0
+Nearer w place r = left w (r .0 .process .place) < left w place
 
 module _ (s : Settings) (p : Process) (me : ℕ) (words : List ℕ) (pos : 1 ≤ s .w) where
   -- the rest of Copy
   on : (c : Copy) (value : ℕ) (q : Process) → Nearer (s .w) (ReadsHeader c value) (copyOn s c q, words)
   on c value q =
       branch (λ (r : Moved). Nearer (s .w) (ReadsHeader c value) (r, words)) (ltb (c .segment + 1) (s .w)) _ _
-      (λ e. record { closer = omega (arith, ltb-true (c .segment + 1) (s .w) e); answers = refl })
+      (λ e. omega (arith, ltb-true (c .segment + 1) (s .w) e))
       (λ e. both-arms (λ (r : Moved). Nearer (s .w) (ReadsHeader c value) (r, words)) (c .gathers) _ _
-      (record { closer = omega arith; answers = refl }) (record { closer = omega arith; answers = refl }))
+      (omega arith) (omega arith))
 
   short : (c : Copy) (value header : ℕ) → Nearer (s .w) (ReadsHeader c value) (copyCutShort s c header p, words)
   short c value header =
       both-arms (λ (r : Moved). Nearer (s .w) (ReadsHeader c value) (r, words)) (c .gathers) _ _
-      (record { closer = omega arith; answers = refl }) (record { closer = omega arith; answers = refl })
+      (omega arith) (omega arith)
 
   announced : (x header j : ℕ) → j < s .w → (t : Bool) → ltb (j + 1) (s .w) ≡ t →
       left (s .w) (cond t (StoreAnnounces x header (j + 1)) (StoreSwapsHeader x header)) < left (s .w) (StoreAnnounces x header j)
   announced x header j l true e = omega (arith, ltb-true (j + 1) (s .w) e)
   announced x header j l false e = omega arith
 
-  pub nearer : (m : ℕ) (place : Place) → placeFits s m place ≡ true → isIdle place ≡ false → Nearer (s .w) place (stepFrom place s p me words)
+  nearer : (m : ℕ) (place : Place) → placeFits s m place ≡ true → isIdle place ≡ false → Nearer (s .w) place (stepFrom place s p me words)
   nearer m Idle f i = never i
-  nearer m (LoadReadsWord x) f i = record { closer = omega arith; answers = refl }
-  nearer m (ValidateReadsWord x) f i = record { closer = omega arith; answers = yes-or-no (eqb (wordOf x words) (keptOf x p)) }
+  nearer m (LoadReadsWord x) f i = omega arith
+  nearer m (ValidateReadsWord x) f i = omega arith
   nearer m (StoreSwapsWord x) f i =
       both-arms (Nearer (s .w) (StoreSwapsWord x)) (eqb (wordOf x words) (keptOf x p)) _ _
-      (record { closer = omega arith; answers = refl }) (record { closer = omega arith; answers = refl })
-  nearer m (LoadReadsHeader x) f i = record { closer = omega arith; answers = refl }
+      (omega arith) (omega arith)
+  nearer m (LoadReadsHeader x) f i = omega arith
   nearer m (ValidateReadsHeader x) f i =
-      record { closer = omega arith; answers = yes-or-no (eqb (tagOf (bits s) (headerOf s x words)) (keptOf x p)) }
+      omega arith
   nearer m (StoreReadsHeader x) f i =
       both-arms (Nearer (s .w) (StoreReadsHeader x)) (eqb (tagOf (bits s) (headerOf s x words)) (keptOf x p)) _ _
-      (record { closer = omega arith; answers = refl }) (record { closer = omega arith; answers = refl })
+      (omega arith) (omega arith)
   nearer m (StoreAnnounces x header j) f i =
-      record { closer = announced x header j (segment-in s m x header j f) (ltb (j + 1) (s .w)) refl; answers = refl }
+      announced x header j (segment-in s m x header j f) (ltb (j + 1) (s .w)) refl
   nearer m (StoreSwapsHeader x header) f i =
       both-arms (Nearer (s .w) (StoreSwapsHeader x header)) (eqb (headerOf s x words) header) _ _
-      (record { closer = omega arith; answers = refl }) (record { closer = omega arith; answers = refl })
+      (omega arith) (omega arith)
   nearer m (ReadsSegment c) f i =
       both-arms (Nearer (s .w) (ReadsSegment c))
       (eqb (tagOf (bits s) (segmentOf s (c .variable) (c .segment) words)) (previousTag (bits s) (tagOf (bits s) (c .header)))) _ _
-      (record { closer = omega arith; answers = refl }) (record { closer = omega arith; answers = refl })
-  nearer m (ReadsAnnounced c read) f i = record { closer = omega arith; answers = refl }
+      (omega arith) (omega arith)
+  nearer m (ReadsAnnounced c read) f i = omega arith
   nearer m (SwapsSegment c read announced) f i =
       both-arms (Nearer (s .w) (SwapsSegment c read announced)) (eqb (segmentOf s (c .variable) (c .segment) words) read) _ _
-      (record { closer = omega arith; answers = refl }) (record { closer = omega arith; answers = refl })
-  nearer m (ReadsSegmentAgain c) f i = record { closer = omega arith; answers = refl }
+      (omega arith) (omega arith)
+  nearer m (ReadsSegmentAgain c) f i = omega arith
   nearer m (ReadsHeader c value) f i =
       both-arms (Nearer (s .w) (ReadsHeader c value)) (eqb (headerOf s (c .variable) words) (c .header)) _ _
       (on c value (saving c value p)) (short c value (headerOf s (c .variable) words))
@@ -143,7 +126,7 @@ put-timed s own board me p mine l h o =
     (rw (getD-set-same (board .processes) me p nobody l) h)
     (λ q n. rw (getD-set-other (board .processes) me q p nobody n) (o q))
 
-room : (board : Board) (me : ℕ) (words : List ℕ) {s : Settings} → Shaped s board → Accepted board me words → me < length (board .processes)
+room : (board : Board) (me : ℕ) (words : List ℕ) {s : Settings} → BoardOf s board → Accepted board me words → me < length (board .processes)
 room board me words h a = omega (arith, h .sixteen, sized (board .settings) (a .sizes .settings) .n-most, a .mine)
 
 module _ (s : Settings) (own : ℕ → Own) where
@@ -154,7 +137,7 @@ module _ (s : Settings) (own : ℕ → Own) where
   After event a =
       AllTimed (a .board) (cond (taken (a .answer)) (change own (processOf event) (counting event (own (processOf event)))) own)
 
-  begin-timed : (board : Board) (me : ℕ) (call : Call) (values words : List ℕ) → Shaped s board → AllTimed board own →
+  begin-timed : (board : Board) (me : ℕ) (call : Call) (values words : List ℕ) → BoardOf s board → AllTimed board own →
       After (begin me call values) (beginRule board me call values words)
   begin-timed board me call values words h o =
       begin-cases (After (begin me call values)) board me call values words
@@ -162,7 +145,7 @@ module _ (s : Settings) (own : ℕ → Own) where
       (room board me words h a) (record { sum = rw (h .settings) (omega (arith, first-timed (s .kind) (s .w) call)) }) o)
       (λ r. o)
 
-  step-timed : (board : Board) (me : ℕ) (words : List ℕ) → Shaped s board → AllTimed board own →
+  step-timed : (board : Board) (me : ℕ) (words : List ℕ) → BoardOf s board → AllTimed board own →
       After (step me) (stepRule board me words .0)
   unfolding processStep
   step-timed board me words h o =
@@ -172,9 +155,9 @@ module _ (s : Settings) (own : ℕ → Own) where
       let moved : Moved = stepFrom (p .place) (board .settings) p me words .0 in
       let n = nearer (board .settings) p me words (sized (board .settings) (a .sizes .settings) .w-least) (p .opened) (p .place)
       (clauses (board .settings) p (process-fits board words (a .good) me (a .mine)) .place) busy in
-      let d : left (s .w) (moved .process .place) < left (s .w) (p .place) = rw (← (h .settings)) (n .closer) in
+      let d : left (s .w) (moved .process .place) < left (s .w) (p .place) = rw (← (h .settings)) n in
       let mine : Timed s (counting (step me) (own me)) (moved .process .place) = record { sum = omega (arith, o me .sum) } in
-      rw (n .answers) (put-timed s own board me (moved .process) (counting (step me) (own me)) (room board me words h a) mine o))
+      rw (framed (p .place) (board .settings) p me words busy .own .answers) (put-timed s own board me (moved .process) (counting (step me) (own me)) (room board me words h a) mine o))
       (λ r. o)
 
 timed : (s : Settings) (lent : List ℕ) → sizesCheck s (length lent) ≡ Fine → (events : List Event) (q : ℕ) →
@@ -213,8 +196,7 @@ passes board me words e =
     let a = step-accepted board me words e in
     let p : Process = processAt board me in
     subst (λ (k : Check). taken (stepBy k board me words .0 .answer) ≡ true) (sym e)
-    (nearer (board .settings) p me words (sized (board .settings) (a .0 .sizes .settings) .w-least) (p .opened) (p .place)
-    (clauses (board .settings) p (process-fits board words (a .0 .good) me (a .0 .mine)) .place) (a .1) .answers)
+    (framed (p .place) (board .settings) p me words (a .1) .own .answers)
 
 sum-of : (t : Turn) → own t .steps + left (t .settings .w) (place t) ≤ mostSteps (t .settings) (own t .call)
 sum-of t = timed (t .settings) (t .lent) (ready-fine (t .settings) (t .lent) (t .ready)) (t .events) (t .me) .sum

@@ -11,14 +11,9 @@ use Rattle.rules.specs.GoodForm.{valueFits, onePlace, manyPlace, onePlac
 use Rattle.rules.specs.Refusals.{variableOf, lacksSequence, allBlank, storable, valuesRight}
 use Rattle.rules.specs.Sizes.{isOne, isMany}
 use Rattle.rules.specs.Steps.{firstPlace, beginning}
-use Rattle.rules.specs.declared.Call.{Call}
-use Rattle.rules.specs.declared.Call.the-variants.{Load, Validate, Store}
-use Rattle.rules.specs.declared.Kind.{Kind}
-use Rattle.rules.specs.declared.Kind.the-variants.{One, Many}
-use Rattle.rules.specs.declared.Process.{Process}
-use Rattle.rules.specs.declared.Settings.{Settings}
 use Rattle.rules.proofs.Refusals.Checked.{Beginning}
 use Rattle.rules.specs.InForm.{heldHeader, Sound}
+use Rattle.rules.specs.Types.{Call, Load, Validate, Store, Kind, One, Many, Process, Settings}
 use Rattle.rules.proofs.GoodForm.Sounds.{zero-fits}
 use Rattle.rules.proofs.Tests.{and-left, and-both, all-at, all-of}
 

@@ -1,7 +1,7 @@
 -- A fresh set-up is in good form and shaped as the types say, whatever memory was lent. Assumes nothing.
 use mathlib.Core.Path.{_≡_, refl, sym, ap, _∙_, subst}
 use mathlib.Core.Bool.{true}
-use mathlib.Core.List.{List}
+use mathlib.Core.List.{List, _++_}
 use Prim.Native.Nat.{ℕ, _+_, _-_, _^_, _≤_, _<_}
 use native.Mathlib.Nat.{zero-mod}
 use native.Mathlib.Omega.{arith}
@@ -17,15 +17,11 @@ use Rattle.rules.specs.GoodForm.{names, valueFits, keptFit, keptFitBy, o
 use Rattle.rules.specs.Processes.{nobody, processAt}
 use Rattle.rules.specs.Refusals.{sizesCheck}
 use Rattle.rules.specs.Sizes.{bits, wordsUsed, usedBy, headerAt, announceAt}
-use Rattle.rules.specs.declared.Check.{Check}
-use Rattle.rules.specs.declared.Check.the-variants.{Fine}
-use Rattle.rules.specs.declared.Kind.{Kind}
-use Rattle.rules.specs.declared.Kind.the-variants.{One, Many}
-use Rattle.rules.specs.declared.Settings.{Settings}
 use Rattle.rules.proofs.Refusals.Checked.{stands}
 use Rattle.rules.proofs.Sizes.Addresses.{header-in, announce-in}
 use Rattle.rules.proofs.GoodForm.Held.{in-form}
 use Rattle.rules.specs.InForm.{Formed, Sound, Clean, InForm}
+use Rattle.rules.specs.Types.{Check, Fine, Kind, One, Many, Settings}
 use Rattle.rules.proofs.Sizes.Sized.{sized}
 use Rattle.rules.proofs.GoodForm.Sounds.{zero-fits, no-values-fit}
 use Rattle.rules.proofs.Tests.{and-both, all-of}
@@ -60,6 +56,12 @@ module _ (s : Settings) (z : Sized s) where
   unfolding names valueOf
   zero-names = lt-ltb _ _ (subst (λ (v : ℕ). v < s .n) (sym (zero-mod (valueLimit (bits s)))) (z .n-least))
 
+-- a list that begins with n 0s
+pub zero-at : (n a : ℕ) (rest : List ℕ) → a < n → _≡_ {A = ℕ} (getD (replicate n 0 ++ rest) a 0) 0
+zero-at n a rest h =
+    let long : a < length (replicate {A = ℕ} n 0) = omega (arith, length-replicate {A = ℕ} n 0) in
+    List·getD-append (replicate n 0) rest 0 a long ∙ getD-replicate n a 0 0 h
+
 abbrev zeros : Settings → List ℕ
 zeros s = replicate (wordsUsed s) 0
 
@@ -69,9 +71,7 @@ zeros-length s = length-replicate {A = ℕ} (wordsUsed s) 0
 -- every word used is 0, and each past them is as lent
 module _ (s : Settings) (words : List ℕ) where
   pub fresh-zero : (a : ℕ) → a < wordsUsed s → getD (freshWords s words) a 0 ≡ 0
-  fresh-zero a h =
-      List·getD-append (zeros s) (drop (wordsUsed s) words) 0 a (subst (λ (n : ℕ). a < n) (sym (zeros-length s)) h)
-      ∙ getD-replicate (wordsUsed s) a 0 0 h
+  fresh-zero a h = zero-at (wordsUsed s) a (drop (wordsUsed s) words) h
 
   pub fresh-past : (a : ℕ) → wordsUsed s ≤ a → getD (freshWords s words) a 0 ≡ getD words a 0
   fresh-past a h =

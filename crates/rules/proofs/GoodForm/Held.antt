@@ -1,22 +1,19 @@
 -- What good form gives at each place. Assumes nothing.
 use mathlib.Core.Path.{_≡_, refl, subst}
-use mathlib.Core.Bool.{Bool, true, _&&_}
+use mathlib.Core.Bool.{Bool, true, false, _&&_}
 use Prim.Native.Nat.{ℕ, _≤_, _<_}
 use lib.Dec.{ltb}
 use lib.ListN.{getD}
+use native.Mathlib.Omega.{arith}
 use borrow.Author.Tests.{ltb-true}
 use Rattle.word.specs.Word.{valueLimit, valueOf}
 use Rattle.rules.specs.GoodForm.{names, valueFits, onePlace, manyPlace, onePlaceOpen, manyPlaceOpen, headerHeld, segmentHeld, valueHeld, placeFits, valuesFit, keptFit, openFits, processFits}
 use Rattle.rules.specs.InForm.{Clauses}
-use Rattle.rules.specs.Processes.{isOpen}
+use Rattle.rules.specs.Onlooker.{variableAt}
+use Rattle.rules.specs.Processes.{isIdle, isOpen}
 use Rattle.rules.specs.Sizes.{bits, isOne, isMany, wordsUsed, usedBy}
-use Rattle.rules.specs.declared.Copy.{Copy}
-use Rattle.rules.specs.declared.Kind.{Kind}
-use Rattle.rules.specs.declared.Kind.the-variants.{One, Many}
-use Rattle.rules.specs.declared.Place.{Place}
-use Rattle.rules.specs.declared.Process.{Process}
-use Rattle.rules.specs.declared.Settings.{Settings}
-use Rattle.rules.proofs.Tests.{and-left, and-right, all-at}
+use Rattle.rules.specs.Types.{Copy, Kind, One, Many, Place, Idle, LoadReadsWord, ValidateReadsWord, StoreSwapsWord, LoadReadsHeader, ValidateReadsHeader, StoreReadsHeader, StoreAnnounces, StoreSwapsHeader, ReadsSegment, ReadsAnnounced, SwapsSegment, ReadsSegmentAgain, ReadsHeader, Process, Settings}
+use Rattle.rules.proofs.Tests.{never, and-left, and-right, all-at}
 
 pub one-kind : (k : Kind) → isOne k ≡ true → k ≡ One
 one-kind One e = refl
@@ -26,7 +23,18 @@ pub many-kind : (k : Kind) → isMany k ≡ true → k ≡ Many
 many-kind One e = cc
 many-kind Many e = refl
 
+pub one-not-many : {A : Type 0} {k : Kind} → k ≡ One → k ≡ Many → A
+one-not-many one many = let z : _≡_ {A = ℕ} 0 1 = cc in absurd (omega arith)
+
 module _ (s : Settings) where
+  pub kind-one : (x : ℕ) → onePlace s x ≡ true → s .kind ≡ One
+  unfolding onePlace
+  kind-one x e = one-kind (s .kind) (and-left (isOne (s .kind)) (ltb x (s .t)) e)
+
+  pub kind-many : (x : ℕ) → manyPlace s x ≡ true → s .kind ≡ Many
+  unfolding manyPlace
+  kind-many x e = many-kind (s .kind) (and-left (isMany (s .kind)) (ltb x (s .t)) e)
+
   pub many-used-by : s .kind ≡ Many → (n : ℕ) → wordsUsed s ≤ n → usedBy Many s ≤ n
   many-used-by e n h = rw e at h
 
@@ -35,16 +43,14 @@ module _ (s : Settings) where
   one-in x e = ltb-true _ _ (and-right (isOne (s .kind)) (ltb x (s .t)) e)
 
   pub one-used : (x n : ℕ) → onePlace s x ≡ true → wordsUsed s ≤ n → s .t ≤ n
-  unfolding onePlace
-  one-used x n e h = rw (one-kind (s .kind) (and-left (isOne (s .kind)) (ltb x (s .t)) e)) at h
+  one-used x n e h = rw (kind-one x e) at h
 
   pub many-in : (x : ℕ) → manyPlace s x ≡ true → x < s .t
   unfolding manyPlace
   many-in x e = ltb-true _ _ (and-right (isMany (s .kind)) (ltb x (s .t)) e)
 
   pub many-used : (x n : ℕ) → manyPlace s x ≡ true → wordsUsed s ≤ n → usedBy Many s ≤ n
-  unfolding manyPlace
-  many-used x n e h = rw (many-kind (s .kind) (and-left (isMany (s .kind)) (ltb x (s .t)) e)) at h
+  many-used x n e h = many-used-by (kind-many x e) n h
 
   pub one-open : (m x : ℕ) → onePlaceOpen s m x ≡ true → onePlace s x ≡ true
   unfolding onePlaceOpen
@@ -107,3 +113,25 @@ module _ (s : Settings) (p : Process) where
   pub value-in : processFits s p ≡ true → (i : ℕ) → i < 4 → getD (p .values) i 0 < valueLimit (bits s)
   unfolding valuesFit valueFits
   value-in e i h = ltb-true _ _ (all-at (λ j. ltb (getD (p .values) j 0) (valueLimit (bits s))) i 4 (clauses e .values) h)
+
+-- the variable of a call in progress is below T
+pub place-in : (s : Settings) (m : ℕ) (place : Place) → placeFits s m place ≡ true → isIdle place ≡ false → variableAt place < s .t
+place-in s m Idle f i = never i
+place-in s m (LoadReadsWord x) f i = one-in s x f
+place-in s m (ValidateReadsWord x) f i = one-in s x (one-open s m x f)
+place-in s m (StoreSwapsWord x) f i = one-in s x (one-open s m x f)
+place-in s m (LoadReadsHeader x) f i = many-in s x f
+place-in s m (ValidateReadsHeader x) f i = many-in s x (many-open s m x f)
+place-in s m (StoreReadsHeader x) f i = many-in s x (many-open s m x f)
+place-in s m (StoreAnnounces x header j) f i = many-in s x (held s m x header (segment s m x header j f))
+place-in s m (StoreSwapsHeader x header) f i = many-in s x (held s m x header f)
+place-in s m (ReadsSegment c) f i = many-in s (c .variable)
+    (held s m (c .variable) (c .header) (segment s m (c .variable) (c .header) (c .segment) f))
+place-in s m (ReadsAnnounced c read) f i = many-in s (c .variable)
+    (held s m (c .variable) (c .header) (segment s m (c .variable) (c .header) (c .segment) f))
+place-in s m (SwapsSegment c read u) f i = many-in s (c .variable)
+    (held s m (c .variable) (c .header) (segment s m (c .variable) (c .header) (c .segment) (held-copy s m u c f)))
+place-in s m (ReadsSegmentAgain c) f i = many-in s (c .variable)
+    (held s m (c .variable) (c .header) (segment s m (c .variable) (c .header) (c .segment) f))
+place-in s m (ReadsHeader c u) f i = many-in s (c .variable)
+    (held s m (c .variable) (c .header) (segment s m (c .variable) (c .header) (c .segment) (held-copy s m u c f)))

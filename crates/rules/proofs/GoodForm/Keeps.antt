@@ -10,17 +10,13 @@ use Rattle.rules.specs.GoodForm.{processFits, processesFit, wordsFit, in
 use Rattle.rules.specs.Processes.{nobody, processAt, putProcess}
 use Rattle.rules.specs.Refusals.{beginCheck, stepCheck}
 use Rattle.rules.specs.Steps.{processStep}
-use Rattle.rules.specs.declared.Board.{Board}
-use Rattle.rules.specs.declared.Call.{Call}
-use Rattle.rules.specs.declared.Check.{Check}
-use Rattle.rules.specs.declared.Check.the-variants.{Fine}
-use Rattle.rules.specs.declared.Process.{Process}
 use Rattle.rules.proofs.Refusals.Checked.{step-accepted, begin-accepted}
 use Rattle.rules.proofs.GoodForm.FirstPlace.{begins}
 use Rattle.rules.proofs.Branches.{after-set}
 use Rattle.rules.proofs.GoodForm.Held.{clauses, in-form}
 use Rattle.rules.proofs.GoodForm.Kept.{kept}
 use Rattle.rules.specs.InForm.{Formed, Shaped, Sound, Clean, InForm}
+use Rattle.rules.specs.Types.{Board, Call, Check, Fine, Process}
 use Rattle.rules.proofs.Sizes.Sized.{sized}
 use Rattle.rules.proofs.Tests.{and-left, and-right, and-both, all-at, all-of}
 

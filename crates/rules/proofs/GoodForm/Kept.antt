@@ -17,22 +17,16 @@ use Rattle.rules.specs.GoodForm.{names, valueFits, onePlace, manyPlace, 
 use Rattle.rules.specs.Processes.{at, keptOf, withOpen, closing, gatheringAnew}
 use Rattle.rules.specs.Sizes.{bits, wordAt, headerAt, segmentAt, announceAt, wordOf, headerOf, segmentOf}
 use Rattle.rules.specs.Steps.{stepFrom}
-use Rattle.rules.specs.declared.Copy.{Copy}
-use Rattle.rules.specs.declared.Kind.the-variants.{Many}
-use Rattle.rules.specs.declared.Moved.{Moved}
-use Rattle.rules.specs.declared.Place.{Place}
-use Rattle.rules.specs.declared.Place.the-variants.{Idle, LoadReadsWord, ValidateReadsWord, StoreSwapsWord, LoadReadsHeader, ValidateReadsHeader, StoreReadsHeader, StoreAnnounces, StoreSwapsHeader, ReadsSegment, ReadsAnnounced, SwapsSegment, ReadsSegmentAgain, ReadsHeader}
-use Rattle.rules.specs.declared.Process.{Process}
-use Rattle.rules.specs.declared.Settings.{Settings}
 use Rattle.rules.proofs.Sizes.Addresses.{number-fits, header-announce, segment-announce, header-segment}
 use Rattle.rules.proofs.Branches.{branch, both-arms}
 use Rattle.rules.proofs.Sequences.Closing.{opening-opens}
 use Rattle.rules.proofs.Changes.Frame.{saves}
 use Rattle.rules.proofs.GoodForm.Held as held
 use Rattle.rules.specs.InForm.{heldHeader, Sound, Clean}
+use Rattle.rules.specs.Types.{Copy, Many, Moved, Place, Idle, LoadReadsWord, ValidateReadsWord, StoreSwapsWord, LoadReadsHeader, ValidateReadsHeader, StoreReadsHeader, StoreAnnounces, StoreSwapsHeader, ReadsSegment, ReadsAnnounced, SwapsSegment, ReadsSegmentAgain, ReadsHeader, Process, Settings}
 use Rattle.rules.proofs.GoodForm.Sounds as sounds
 use Rattle.rules.proofs.Tests.{and-left, and-both}
-use Rattle.rules.proofs.GoodForm.Written.{kind-one, kind-many, one-not-many, header-names, announced-fits, header-bounded, write-one, write-many}
+use Rattle.rules.proofs.GoodForm.Written.{header-names, announced-fits, header-bounded, write-one, write-many}
 
 pub record Kept (s : Settings) (step : Step) : Type 0 where
   pub process : Sound s (step .0 .process)
@@ -83,20 +77,20 @@ module _ (s : Settings) (z : Sized s) (p : Process) (me : ℕ) (mine : me < s .n
 
   load-word : (x : ℕ) → onePlace s x ≡ true → Kept s (stepFrom (LoadReadsWord x) s p me words)
   load-word x ok =
-      let tag : s .kind ≡ Many → wordOf x words < tagLimit (bits s) = λ many. absurd (one-not-many (s .kind) (kind-one s x ok) many) in
+      let tag : s .kind ≡ Many → wordOf x words < tagLimit (bits s) = λ many. held.one-not-many (held.kind-one s x ok) many in
       record { process = sounds.opens s p sound x (wordOf x words) (held.one-in s x ok) tag Idle refl (omega arith); words = clean }
 
   store-word : (x : ℕ) → onePlaceOpen s (p .opened) x ≡ true → Kept s (stepFrom (StoreSwapsWord x) s p me words)
   store-word x ok =
       let small = word-lt (bits s) (z .b-most) (next-lt (bits s) (tagOf (bits s) (keptOf x p))) (value-fits 0 (omega arith)) in
-      let one = kind-one s x (held.one-open s (p .opened) x ok) in
+      let one = held.kind-one s x (held.one-open s (p .opened) x ok) in
       both-arms (Kept s) (eqb (wordOf x words) (keptOf x p)) _ _
       (record { process = sounds.shuts s p sound x; words = write-one s words clean (wordAt x) (newWord s p x) small one })
       (record { process = sounds.shuts s p sound x; words = clean })
 
   load-header : (x : ℕ) → manyPlace s x ≡ true → Kept s (stepFrom (LoadReadsHeader x) s p me words)
   load-header x ok =
-      let many = kind-many s x ok in
+      let many = held.kind-many s x ok in
       let in' = held.many-in s x ok in
       let small = header-bounded s words clean many z x in' in
       let named = header-names s words clean many x in' in
@@ -110,7 +104,7 @@ module _ (s : Settings) (z : Sized s) (p : Process) (me : ℕ) (mine : me < s .n
   store-header : (x : ℕ) → manyPlaceOpen s (p .opened) x ≡ true → Kept s (stepFrom (StoreReadsHeader x) s p me words)
   store-header x ok =
       let at-x = held.many-open s (p .opened) x ok in
-      let many = kind-many s x at-x in
+      let many = held.kind-many s x at-x in
       let in' = held.many-in s x at-x in
       let small = header-bounded s words clean many z x in' in
       let place = holds (p .opened) x (headerOf s x words) 0 ok (header-names s words clean many x in') (z .w-least) in
@@ -122,7 +116,7 @@ module _ (s : Settings) (z : Sized s) (p : Process) (me : ℕ) (mine : me < s .n
       → Kept s (stepFrom (StoreAnnounces x header i) s p me words)
   announce x header i ok small =
       let at-header = held.segment s (p .opened) x header i ok in
-      let many = kind-many s x (held.held s (p .opened) x header at-header) in
+      let many = held.kind-many s x (held.held s (p .opened) x header at-header) in
       let below : i < s .w = held.segment-in s (p .opened) x header i ok in
       let value = value-fits i (omega (arith, z .w-most)) in
       record {
@@ -137,7 +131,7 @@ module _ (s : Settings) (z : Sized s) (p : Process) (me : ℕ) (mine : me < s .n
   unfolding headerHeld
   swap-header x header ok =
       let at-x = held.held s (p .opened) x header ok in
-      let many = kind-many s x at-x in
+      let many = held.kind-many s x at-x in
       let wide = and-left (manyPlaceOpen s (p .opened) x) (names s header) ok in
       let place = holds (p .opened) x (newHeader s me header) 0 wide (new-names header) (z .w-least) in
       both-arms (Kept s) (eqb (headerOf s x words) header) _ _
@@ -157,7 +151,7 @@ module _ (s : Settings) (z : Sized s) (p : Process) (me : ℕ) (mine : me < s .n
     at-variable = held.held s (p .opened) (c .variable) (c .header) at-header
 
     many : s .kind ≡ Many
-    many = kind-many s (c .variable) at-variable
+    many = held.kind-many s (c .variable) at-variable
 
     below : c .segment < s .w
     below = held.segment-in s (p .opened) (c .variable) (c .header) (c .segment) ok

@@ -8,14 +8,10 @@ use Rattle.rules.specs.Entry.{beginRule, stepRule}
 use Rattle.rules.specs.Refusals.{sizesCheck, beginCheck, stepCheck}
 use Rattle.rules.specs.Runs.{State, Event, begin, step, after, fresh, run}
 use Rattle.rules.specs.Sizes.{wordsUsed}
-use Rattle.rules.specs.declared.Call.{Call}
-use Rattle.rules.specs.declared.Check.{Check}
-use Rattle.rules.specs.declared.Check.the-variants.{Fine, Refused}
-use Rattle.rules.specs.declared.SetUp.{SetUp}
-use Rattle.rules.specs.declared.Settings.{Settings}
 use Rattle.rules.proofs.Refusals.Checked.{stands}
 use Rattle.rules.proofs.GoodForm.Fresh.{set-up-accepted, fresh-in-form, fresh-length, fresh-past}
 use Rattle.rules.specs.InForm.{InForm}
+use Rattle.rules.specs.Types.{Call, Check, Fine, Refused, SetUp, Settings}
 use Rattle.rules.proofs.GoodForm.Keeps.{begin-keeps, step-keeps}
 use Rattle.rules.proofs.Changes.Leaves.{begin-settings, step-settings, step-length, step-past}
 use Rattle.rules.proofs.Refusals.Refusing.{begin-refused, step-refused}

@@ -7,24 +7,18 @@ use Prim.Native.Nat.{ℕ, _-_, _^_, _<_}
 use native.Mathlib.Omega.{arith}
 use borrow.Author.Tests.{ltb-true, lt-ltb}
 use lib.Dec.{ltb}
-use lib.ListN.{getD, set, length-set}
+use lib.ListN.{length, getD, set, length-set}
 use lib.Pow.{pow-pos}
 use Rattle.word.specs.Word.{tagLimit, valueLimit}
 use Rattle.rules.specs.Figure6.{saving}
 use Rattle.rules.specs.GoodForm.{all, valueFits, placeFits, valuesFit, keptFit, keptFitBy, openFits}
 use Rattle.rules.specs.Processes.{at, opening, closing, keeping, gathering, gatheringAnew, noValues, withOpen}
 use Rattle.rules.specs.Sizes.{bits}
-use Rattle.rules.specs.declared.Copy.{Copy}
-use Rattle.rules.specs.declared.Kind.{Kind}
-use Rattle.rules.specs.declared.Kind.the-variants.{One, Many}
-use Rattle.rules.specs.declared.Place.{Place}
-use Rattle.rules.specs.declared.Place.the-variants.{Idle}
-use Rattle.rules.specs.declared.Process.{Process}
-use Rattle.rules.specs.declared.Settings.{Settings}
 use Rattle.rules.proofs.Branches.{after-set, both-arms}
 use Rattle.rules.proofs.Sequences.Closing.{close-in}
 use Rattle.rules.proofs.Sequences.Masks.{open-in}
 use Rattle.rules.specs.InForm.{heldHeader, Sound}
+use Rattle.rules.specs.Types.{Copy, Kind, One, Many, Place, Idle, Process, Settings}
 use Rattle.rules.proofs.Tests.{all-at, all-of}
 
 -- a list of values stays in form where one that fits is put in
@@ -108,35 +102,28 @@ module _ (s : Settings) (p : Process) (sound : Sound s p) where
         shape = record { keep = length-set (p .keep) x kept ∙ sound .shape .keep; gathered = sound .shape .gathered; header = small };
       }
 
-  pub gathers-anew : Sound s (gatheringAnew p)
-  gathers-anew =
+  -- other values are gathered, four that fit
+  gathers-these : (l : List ℕ) → valuesFit s l ≡ true → length l ≡ 4
+      → Sound s (record { place = p .place; opened = p .opened; keep = p .keep; values = p .values; gathered = l })
+  gathers-these l fit four =
       record {
         form = record {
           place = sound .form .place;
           sequences = sound .form .sequences;
           kept = sound .form .kept;
           values = sound .form .values;
-          gathered = no-values-fit s;
+          gathered = fit;
         };
-        shape = record { keep = sound .shape .keep; gathered = refl; header = sound .shape .header };
+        shape = record { keep = sound .shape .keep; gathered = four; header = sound .shape .header };
       }
+
+  pub gathers-anew : Sound s (gatheringAnew p)
+  gathers-anew = gathers-these noValues (no-values-fit s) refl
 
   gathers : (i value : ℕ) → valueFits s value ≡ true → Sound s (gathering i value p)
   gathers i value fits =
-      record {
-        form = record {
-          place = sound .form .place;
-          sequences = sound .form .sequences;
-          kept = sound .form .kept;
-          values = sound .form .values;
-          gathered = values-kept s (p .gathered) i value (sound .form .gathered) fits;
-        };
-        shape = record {
-          keep = sound .shape .keep;
-          gathered = length-set (p .gathered) i value ∙ sound .shape .gathered;
-          header = sound .shape .header;
-        };
-      }
+      gathers-these (set (p .gathered) i value) (values-kept s (p .gathered) i value (sound .form .gathered) fits)
+      (length-set (p .gathered) i value ∙ sound .shape .gathered)
 
   pub saves : (c : Copy) (value : ℕ) → valueFits s value ≡ true → Sound s (saving c value p)
   saves c value fits = both-arms (Sound s) (c .gathers) _ _ (gathers (c .segment) value fits) sound

@@ -4,30 +4,15 @@ use mathlib.Core.Path.{_≡_, sym, ap, _∙_, subst}
 use mathlib.Core.Bool.{true, _&&_}
 use mathlib.Core.List.{List}
 use Prim.Native.Nat.{ℕ, _^_, _<_}
-use native.Mathlib.Omega.{arith}
 use lib.ListN.{set}
 use Rattle.rules.specs.Bounds.{Sized}
-use Rattle.rules.specs.GoodForm.{names, valueFits, onePlace, manyPlace, wordsFit, wordsFitBy, headersFit, rowFits, rowsFit}
-use Rattle.rules.specs.Sizes.{isOne, isMany, headerAt, announceAt, headerOf, announcedOf, usedBy}
-use Rattle.rules.specs.declared.Kind.{Kind}
-use Rattle.rules.specs.declared.Kind.the-variants.{One, Many}
-use Rattle.rules.specs.declared.Settings.{Settings}
+use Rattle.rules.specs.GoodForm.{names, valueFits, wordsFit, wordsFitBy, headersFit, rowFits, rowsFit}
+use Rattle.rules.specs.Sizes.{headerAt, announceAt, headerOf, announcedOf, usedBy}
 use Rattle.rules.proofs.Sizes.Addresses.{header-in}
 use Rattle.rules.proofs.Branches.{after-set}
-use Rattle.rules.proofs.GoodForm.Held.{one-kind, many-kind}
 use Rattle.rules.specs.InForm.{Bounded, Clean}
+use Rattle.rules.specs.Types.{Kind, One, Many, Settings}
 use Rattle.rules.proofs.Tests.{and-left, and-right, and-both, all-at, all-of}
-
-pub kind-one : (s : Settings) (x : ℕ) → onePlace s x ≡ true → s .kind ≡ One
-unfolding onePlace
-kind-one s x e = one-kind (s .kind) (and-left (isOne (s .kind)) _ e)
-
-pub one-not-many : (k : Kind) → k ≡ One → k ≡ Many → ⊥
-one-not-many k one many = let z : _≡_ {A = ℕ} 0 1 = cc in omega arith
-
-pub kind-many : (s : Settings) (x : ℕ) → manyPlace s x ≡ true → s .kind ≡ Many
-unfolding manyPlace
-kind-many s x e = many-kind (s .kind) (and-left (isMany (s .kind)) _ e)
 
 module _ (s : Settings) (words : List ℕ) (clean : Clean s words) (many : s .kind ≡ Many) where
   both-fit : (headersFit s words && rowsFit s words) ≡ true

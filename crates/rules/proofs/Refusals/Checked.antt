@@ -10,24 +10,18 @@ use Rattle.rules.specs.GoodForm.{inGoodForm}
 use Rattle.rules.specs.Processes.{isIdle, processAt}
 use Rattle.rules.specs.Refusals.{refuseIf, andThen, sizesCheck, processCheck, variableOf, lacksSequence, valuesRight, callCheck, beginCheck, stepCheck}
 use Rattle.rules.specs.Sizes.{settingsFit, wordsUsed}
-use Rattle.rules.specs.declared.Board.{Board}
-use Rattle.rules.specs.declared.Call.{Call}
-use Rattle.rules.specs.declared.Check.{Check}
-use Rattle.rules.specs.declared.Check.the-variants.{Fine, Refused}
-use Rattle.rules.specs.declared.Process.{Process}
-use Rattle.rules.specs.declared.Settings.{Settings}
-use Rattle.word.specs.declared.Refusal.{Refusal}
+use Rattle.rules.specs.Types.{Board, Call, Check, Fine, Refused, Process, Settings, Refusal}
 
-never : {A : Type 0} (r : Refusal) → Refused r ≡ Fine → A
-never r e = let z : _≡_ {A = ℕ} 0 1 = cc in absurd (omega arith)
+refused-fine : {A : Type 0} (r : Refusal) → Refused r ≡ Fine → A
+refused-fine r e = let z : _≡_ {A = ℕ} 0 1 = cc in absurd (omega arith)
 
 refuse-fine : (test : Bool) (r : Refusal) (rest : Check) → refuseIf test r rest ≡ Fine → (test ≡ false) × (rest ≡ Fine)
-refuse-fine true r rest e = never r e
+refuse-fine true r rest e = refused-fine r e
 refuse-fine false r rest e = (refl, e)
 
 then-fine : (a b : Check) → andThen a b ≡ Fine → (a ≡ Fine) × (b ≡ Fine)
 then-fine Fine b e = (refl, e)
-then-fine (Refused r) b e = never r e
+then-fine (Refused r) b e = refused-fine r e
 
 -- the settings stand, and the words used are lent
 pub record Stands (s : Settings) (words : List ℕ) : Type 0 where

@@ -1,30 +1,20 @@
 -- A refusal answers its number and leaves board and words as found, and is given exactly where the check finds it: an
 -- accepted begin or step never answers a refusal. Assumes nothing.
 use mathlib.Core.Path.{_≡_, refl, sym, ap, _∙_}
-use mathlib.Core.Bool.{true, false}
+use mathlib.Core.Bool.{true}
 use mathlib.Core.List.{List}
 use Prim.Native.Nat.{ℕ}
-use native.Mathlib.Omega.{arith}
 use lib.ListN.{length}
 use Rattle.rules.specs.Entry.{blankBoard, refusing, setUpRule, setUpBy, beginRule, beginBy, stepRule, stepBy, openCountRule, openCountBy}
+use Rattle.rules.specs.Onlooker.{taken}
 use Rattle.rules.specs.Processes.{processAt}
 use Rattle.rules.specs.Refusals.{sizesCheck, processCheck, beginCheck, stepCheck}
 use Rattle.rules.specs.Sizes.{settingsFit}
 use Rattle.rules.specs.Steps.{processStep}
-use Rattle.rules.specs.declared.Answer.{Answer}
-use Rattle.rules.specs.declared.Answer.the-variants.{Begun, Refused as AnswerRefused}
-use Rattle.rules.specs.declared.Board.{Board}
-use Rattle.rules.specs.declared.Call.{Call}
-use Rattle.rules.specs.declared.Check.{Check}
-use Rattle.rules.specs.declared.Check.the-variants.{Fine, Refused}
-use Rattle.rules.specs.declared.OpenCount.the-variants.{Refused as CountRefused}
-use Rattle.rules.specs.declared.Settings.{Settings}
-use Rattle.rules.specs.declared.Start.the-variants.{Refused as StartRefused}
-use Rattle.word.specs.declared.Refusal.{Refusal}
-use Rattle.word.specs.declared.Refusal.the-variants.{SettingOutsideSizes}
+use Rattle.rules.specs.Types.{Answer, Begun, AnswerRefused, Board, Call, Check, Fine, Refused, CountRefused, Settings, StartRefused, Refusal, SettingOutsideSizes}
 use Rattle.rules.proofs.Refusals.Checked.{step-accepted}
 use Rattle.rules.proofs.Changes.Frame.{framed}
-use Rattle.rules.proofs.Changes.Places.{isRefusal}
+use Rattle.rules.proofs.Tests.{never}
 
 -- a refused set-up gives its number, the blank board and the words as found
 pub set-up-refused : (s : Settings) (words : List ℕ) (r : Refusal) → sizesCheck s (length words) ≡ Refused r
@@ -58,11 +48,8 @@ module _ (board : Board) (me : ℕ) (words : List ℕ) (r : Refusal) (e : proces
   step-refused-first = step-refused board me words r (rw e)
 
 -- an answer is a refusal exactly where the check is that refusal
-refused-only : {A : Type 0} (r : Refusal) (answer : Answer) → isRefusal answer ≡ false → answer ≡ AnswerRefused r → A
-refused-only r answer other e =
-    let never : true ≡ false = sym (ap isRefusal e) ∙ other in
-    let z : _≡_ {A = ℕ} 0 1 = cc in
-    absurd (omega arith)
+refused-only : {A : Type 0} (r : Refusal) (answer : Answer) → taken answer ≡ true → answer ≡ AnswerRefused r → A
+refused-only r answer accepted e = never (sym accepted ∙ ap taken e)
 
 pub set-up-refuses : (s : Settings) (words : List ℕ) (r : Refusal)
     → setUpRule s words .0 .start ≡ StartRefused r → sizesCheck s (length words) ≡ Refused r

@@ -9,7 +9,7 @@ use borrow.Author.Tests.{eqb-true, eq-eqb, ne-eqb}
 use lib.Dec.{eqb}
 use lib.Pow.{pow-pos}
 use Rattle.rules.specs.Processes.{isOpen, withOpen, withClosed, opening, closing}
-use Rattle.rules.specs.declared.Process.{Process}
+use Rattle.rules.specs.Types.{Process}
 use Rattle.rules.proofs.Sequences.Masks.{open-le, opens}
 
 module _ (n x : ℕ) (e : isOpen n x ≡ true) where
@@ -45,7 +45,7 @@ closes n x y = go (isOpen n x) refl (eqb y x) refl
     go false e true q = ap (isOpen n) (eqb-true y x q) ∙ e
     go false e false q = refl
 
-pub closed-le : (n x : ℕ) → withClosed n x ≤ n
+closed-le : (n x : ℕ) → withClosed n x ≤ n
 unfolding withClosed
 closed-le n x = go (isOpen n x)
   where

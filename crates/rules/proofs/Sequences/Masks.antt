@@ -1,20 +1,16 @@
--- The mask of open sequences: opening or closing one variable's sequence changes no other's, stays within the variables,
--- and the count of ones is the count over the variables. Assumes nothing.
+-- Open sequences as bits of a mask: opening a variable's sequence opens that one and no other, and stays within the variables.
+-- Assumes nothing.
 use mathlib.Core.Path.{_≡_, refl, sym, ap, _∙_, subst}
 use mathlib.Core.Bool.{Bool, true, false, cond}
-use Prim.Native.Nat.{ℕ, zero, suc, _+_, _-_, _*_, _/_, _%_, _^_, _≤_, _<_}
-use native.Mathlib.Nat.{add-comm, add-mul-div-right, div-add-mod', mod-eq-of-lt, mod-lt, mod-one, mul-le-mul-right, one-mul, pow-suc, suc-mul}
-use native.Mathlib.Numerals.{add-one, one-add}
+use Prim.Native.Nat.{ℕ, suc, _+_, _-_, _*_, _/_, _%_, _^_, _≤_, _<_}
+use native.Mathlib.Nat.{add-mul-div-right, div-add-mod', mod-eq-of-lt, mod-lt, mul-le-mul-right, one-mul, pow-suc, suc-mul}
+use native.Mathlib.Numerals.{add-one}
 use native.Mathlib.Omega.{arith}
 use borrow.Author.Tests.{leb-true, leb-false, eqb-true, eqb-false, eq-eqb}
 use lib.Arith.{digits-lt, lt-of-le-ne}
-use lib.Count.{ones, onesIn, ones-cat}
 use lib.Dec.{eqb, leb}
-use lib.Pow.{pow-pos, pow-lt, pow-add, mod-pow-add, shr-lt, shr-shr}
-use Rattle.rules.specs.Processes.{isOpen, withOpen, openCount}
-
-two-pos : 0 < 2
-two-pos = omega arith
+use lib.Pow.{pow-pos, pow-lt, pow-add, shr-lt, shr-shr}
+use Rattle.rules.specs.Processes.{isOpen, withOpen}
 
 -- what the code's shift gives
 pub bit : (x : ℕ) → x < 16 → (1 * 2 ^ x) % 2 ^ 16 ≡ 2 ^ x
@@ -108,22 +104,3 @@ opens n x y = go (eqb y x) refl
     go : (u : Bool) → eqb y x ≡ u → isOpen (cond (isOpen n x) n (n + 2 ^ x)) y ≡ cond u true (isOpen n y)
     go true q = subst (λ (j : ℕ). isOpen (cond (isOpen n x) n (n + 2 ^ x)) j ≡ true) (sym (eqb-true y x q)) (self (isOpen n x) refl)
     go false q = other (isOpen n x) refl (eqb-false y x q)
-
-digit : (d : ℕ) → d < 2 → ones d ≡ cond (eqb d 1) 1 0
-unfolding ones onesIn
-digit zero h = refl
-digit (suc zero) h = refl
-digit (suc (suc d)) h = omega arith
-
-low : (m k : ℕ) → ones (m % 2 ^ k) ≡ openCount m k
-unfolding openCount ones onesIn
-low m zero = ap ones (mod-one m)
-low m (suc k) =
-    ap (λ (j : ℕ). ones (m % 2 ^ j)) (sym (one-add k))
-    ∙ ap ones (mod-pow-add m 1 k)
-    ∙ ones-cat k (m / 2 ^ k % 2) (m % 2 ^ k) (mod-lt m (pow-pos k))
-    ∙ add-comm (ones (m / 2 ^ k % 2)) (ones (m % 2 ^ k))
-    ∙ rw (low m k, digit (m / 2 ^ k % 2) (mod-lt (m / 2 ^ k) two-pos))
-
-pub counted : (m k : ℕ) → m < 2 ^ k → ones m ≡ openCount m k
-counted m k h = ap ones (sym (mod-eq-of-lt h)) ∙ low m k

@@ -8,9 +8,7 @@ use borrow.Author.Tests.{leb-true, eqb-true}
 use Rattle.word.specs.Word.{bitsFit}
 use Rattle.rules.specs.Bounds.{Sized}
 use Rattle.rules.specs.Sizes.{bits, between, segmentsFit, settingsFit}
-use Rattle.rules.specs.declared.Kind.{Kind}
-use Rattle.rules.specs.declared.Kind.the-variants.{One, Many}
-use Rattle.rules.specs.declared.Settings.{Settings}
+use Rattle.rules.specs.Types.{Kind, One, Many, Settings}
 use Rattle.rules.proofs.Tests.{and-left, and-right}
 
 least : (a b k : ℕ) → between a b k ≡ true → a ≤ k

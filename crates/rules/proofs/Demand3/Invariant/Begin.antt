@@ -6,11 +6,8 @@ use Prim.Native.Nat.{ℕ, _≤_}
 use native.Mathlib.Omega.{arith}
 use lib.ListN.{length}
 use Rattle.rules.specs.Figure2.{nothing}
-use Rattle.rules.specs.declared.Call.{Call}
-use Rattle.rules.specs.declared.Call.the-variants.{Load, Validate, Store}
-use Rattle.rules.specs.declared.Kind.{Kind}
-use Rattle.rules.specs.declared.Kind.the-variants.{One, Many}
-use Rattle.rules.proofs.Demand3.Change.{never}
+use Rattle.rules.specs.Types.{Call, Load, Validate, Store, Kind, One, Many}
+use Rattle.rules.proofs.Tests.{never}
 use Rattle.rules.proofs.Demand3.Invariant.Kinds.{VarInvK, PairK, RelyK}
 use Rattle.rules.proofs.Demand3.Invariant.Many.{storing, Storing, Doing, Pair}
 use Rattle.rules.proofs.Demand3.Invariant.One.{Doing₁, Pair₁}

@@ -7,8 +7,7 @@ use Prim.Native.Nat.{ℕ, _<_}
 use Rattle.rules.specs.Demand3.{Another}
 use Rattle.rules.specs.Figure2.{content, truth}
 use Rattle.rules.specs.Onlooker.{Note, quiet, begins, loads, checks, stores, Seen}
-use Rattle.rules.specs.declared.Kind.{Kind}
-use Rattle.rules.specs.declared.Kind.the-variants.{One, Many}
+use Rattle.rules.specs.Types.{Kind, One, Many}
 use Rattle.rules.proofs.Demand3.Invariant.Many.{VarInv, Pair, Rely}
 use Rattle.rules.proofs.Demand3.Invariant.One.{VarInv₁, Pair₁, Rely₁, stable₁}
 use Rattle.rules.proofs.Demand3.Invariant.Stable.{stable}

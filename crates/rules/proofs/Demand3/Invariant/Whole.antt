@@ -7,15 +7,14 @@ use native.Mathlib.Omega.{arith}
 use lib.Dec.{eqb}
 use borrow.Author.Tests.{eq-eqb, ne-eqb}
 use Rattle.rules.specs.Figure2.{change}
-use Rattle.rules.specs.declared.Kind.{Kind}
-use Rattle.rules.specs.declared.Kind.the-variants.{One, Many}
-use Rattle.rules.proofs.Demand3.Change.{never, change-all, change-both}
+use Rattle.rules.proofs.Demand3.Change.{change-all, change-both}
 use Rattle.rules.proofs.Demand3.Invariant.Begin.{idle-row, firstOf, Has, beginK, anew-inv, anew-rely, anew-idle}
 use Rattle.rules.proofs.Demand3.Invariant.Kinds.{VarInvK, PairK, FineK, stableK}
 use Rattle.rules.proofs.Demand3.Invariant.OneStep.EachPlace.{fineK}
 use Rattle.rules.proofs.Demand3.Machine.{stamp, Place, idle, Sequence, Var, Out, anew, acts}
 use Rattle.rules.specs.Onlooker.{unseen}
-use Rattle.rules.specs.declared.Call.{Call}
+use Rattle.rules.specs.Types.{Kind, One, Many, Call}
+use Rattle.rules.proofs.Tests.{never}
 
 -- a process: the variable of its call, where it stands there, and what it holds for each variable
 pub record Proc : Type 0 where

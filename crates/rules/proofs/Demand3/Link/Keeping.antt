@@ -11,18 +11,16 @@ use Rattle.word.specs.Word.{tagLimit}
 use Rattle.rules.specs.Figure2.{change}
 use Rattle.rules.specs.Processes.{isOpen, withOpen, withClosed}
 use Rattle.rules.specs.Sizes.{bits}
-use Rattle.rules.specs.declared.Kind.{Kind}
-use Rattle.rules.specs.declared.Kind.the-variants.{One, Many}
-use Rattle.rules.specs.declared.Settings.{Settings}
+use Rattle.rules.specs.Types.{Kind, One, Many, Settings}
 use Rattle.rules.proofs.Sequences.Closing.{closes}
 use Rattle.rules.proofs.Sequences.Masks.{opens}
 use Rattle.rules.proofs.Demand3.Change.{change-id, change-all}
 use Rattle.rules.proofs.Demand3.Link.Tags.{Means}
-use Rattle.rules.proofs.Demand3.Machine.{stamp, Sequence, shut}
+use Rattle.rules.proofs.Demand3.Machine.{keptWord, Sequence, shut}
 
 -- a keep-word: the whole word of kind `one`, the tag of kind `many`
 abbrev pub Keeps : Kind → Settings → ℕ → Sequence → Type 0
-Keeps One s w q = Means (bits s) w (stamp (q .kept) (q .kept-value))
+Keeps One s w q = Means (bits s) w (keptWord q)
 Keeps Many s w q = w ≡ q .kept % tagLimit (bits s)
 
 pub record Held (k : Kind) (s : Settings) (sequences : ℕ → Sequence) (keep : List ℕ) (opened : ℕ) : Type 0 where

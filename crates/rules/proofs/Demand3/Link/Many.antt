@@ -16,15 +16,12 @@ use Rattle.rules.specs.GoodForm.{placeFits}
 use Rattle.rules.specs.Processes.{isIdle, keptOf, closing, noValues}
 use Rattle.rules.specs.Sizes.{bits, headerOf, segmentOf, announcedOf}
 use Rattle.rules.specs.Steps.{stepFrom}
-use Rattle.rules.specs.declared.Kind.the-variants.{Many}
-use Rattle.rules.specs.declared.Place.{Place}
-use Rattle.rules.specs.declared.Place.the-variants.{StoreReadsHeader, StoreAnnounces, StoreSwapsHeader, ReadsSegment, SwapsSegment, ReadsHeader}
-use Rattle.rules.specs.declared.Process.{Process}
-use Rattle.rules.specs.declared.Settings.{Settings}
+use Rattle.rules.specs.Types.{Many, Place, StoreReadsHeader, StoreAnnounces, StoreSwapsHeader, ReadsSegment, SwapsSegment, ReadsHeader, Process, Settings}
+use Rattle.rules.proofs.Tests.{never}
 use Rattle.rules.proofs.Sizes.Addresses.{number-fits}
 use Rattle.rules.proofs.Branches.{branch}
 use Rattle.rules.proofs.GoodForm.Held as form
-use Rattle.rules.proofs.Demand3.Change.{never, change-all}
+use Rattle.rules.proofs.Demand3.Change.{change-all}
 use Rattle.rules.proofs.Demand3.Invariant.Begin.{past}
 use Rattle.rules.proofs.Demand3.Invariant.Many.{VarInv, Opened, Pair}
 use Rattle.rules.proofs.Demand3.Link.Keeping.{Held, held-same, held-shut, held-opened}

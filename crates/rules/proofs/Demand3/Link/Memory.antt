@@ -10,9 +10,7 @@ use lib.Seq.{getD-set-same, getD-set-other}
 use Rattle.rules.specs.Bounds.{Sized}
 use Rattle.rules.specs.Figure2.{change}
 use Rattle.rules.specs.Sizes.{bits, wordAt, headerAt, segmentAt, announceAt, usedBy, wordOf, headerOf, segmentOf, announcedOf}
-use Rattle.rules.specs.declared.Kind.{Kind}
-use Rattle.rules.specs.declared.Kind.the-variants.{One, Many}
-use Rattle.rules.specs.declared.Settings.{Settings}
+use Rattle.rules.specs.Types.{Kind, One, Many, Settings}
 use Rattle.rules.proofs.Sizes.Addresses.{header-in, segment-in, announce-in, header-header, segment-segment, header-segment, header-announce, segment-announce, announce-announce}
 use Rattle.rules.proofs.Demand3.Change.{change-all}
 use Rattle.rules.proofs.Demand3.Link.Tags.{Means}

@@ -12,39 +12,32 @@ use Rattle.rules.specs.Figure4.{Step, newWord}
 use Rattle.rules.specs.Processes.{isIdle, keptOf, noValues}
 use Rattle.rules.specs.Sizes.{bits, wordOf}
 use Rattle.rules.specs.Steps.{stepFrom}
-use Rattle.rules.specs.declared.Kind.the-variants.{One}
-use Rattle.rules.specs.declared.Place.{Place}
-use Rattle.rules.specs.declared.Place.the-variants.{StoreSwapsWord}
-use Rattle.rules.specs.declared.Process.{Process}
-use Rattle.rules.specs.declared.Settings.{Settings}
+use Rattle.rules.specs.Types.{One, Place, StoreSwapsWord, Process, Settings}
+use Rattle.rules.proofs.Tests.{never}
 use Rattle.rules.proofs.Branches.{branch}
-use Rattle.rules.proofs.Demand3.Change.{never, each}
+use Rattle.rules.proofs.Demand3.Change.{each}
 use Rattle.rules.proofs.Demand3.Invariant.Begin.{past}
 use Rattle.rules.proofs.Demand3.Invariant.One.{Opened₁, Pair₁}
 use Rattle.rules.proofs.Demand3.Link.Keeping.{Held, held-same, held-shut, held-opened}
 use Rattle.rules.proofs.Demand3.Link.Stands.{at-place, StandsOne, one-idle, one-load, one-validate, one-store, says-values, says-yes, says-no, says-sure, Linked}
 use Rattle.rules.proofs.Demand3.Link.Tags.{next-tag, Means, means-word, word-test}
-use Rattle.rules.proofs.Demand3.Machine.{Versioned, stamp, same, Place as Stand, Sequence, Var, onWordSwap, ruleOne}
+use Rattle.rules.proofs.Demand3.Machine.{keptWord, stamp, same, Place as Stand, Sequence, Var, onWordSwap, ruleOne}
 use Rattle.rules.proofs.Demand3.Same.{same-true}
 
 module _ (s : Settings) (z : Sized s) (p x : ℕ) (v : Var) (rows : ℕ → ℕ → ℕ) (sequences : ℕ → Sequence) (q : Process) (words : List ℕ)
     (xt : x < s .t) (H : Held One s sequences (q .keep) (q .opened)) (M : Means (bits s) (wordOf x words) (v .header))
     (small : getD (q .values) 0 0 < valueLimit (bits s)) where
-  -- the keep-word
-  abbrev kept-word : Versioned
-  kept-word = stamp (sequences x .kept) (sequences x .kept-value)
-
   -- the board's test is the machine's
   test : Opened₁ p v (sequences x) → length (v .seen .since p) + 2 ≤ tagLimit (bits s) →
-      eqb (wordOf x words) (keptOf x q) ≡ same (v .header) kept-word
+      eqb (wordOf x words) (keptOf x q) ≡ same (v .header) (keptWord (sequences x))
   test O B = word-test (bits s) M (H .kept x xt) (O .old) (omega (arith, O .count))
 
   -- the new word has the next tag
-  new-word : same (v .header) kept-word ≡ true →
+  new-word : same (v .header) (keptWord (sequences x)) ≡ true →
       Means (bits s) (newWord s q x) (stamp (suc (v .header .version)) (getD (q .values) 0 0))
   new-word e =
       let b : ℕ = bits s in
-      let k = same-true (v .header) kept-word e in
+      let k = same-true (v .header) (keptWord (sequences x)) e in
       means-word b (nextTag b (tagOf b (keptOf x q))) (getD (q .values) 0 0) (suc (v .header .version)) small
       (ap (nextTag b) (H .kept x xt .tag) ∙ next-tag b (sequences x .kept) ∙ ap (λ (n : ℕ). suc n % tagLimit b) (sym (k .0)))
 
@@ -70,9 +63,9 @@ module _ (s : Settings) (z : Sized s) (p x : ℕ) (v : Var) (rows : ℕ → ℕ 
     note = refl;
   }
   link-one place stand one-store i P B =
-      let T : eqb (wordOf x words) (keptOf x q) ≡ same (v .header) kept-word = test (P .seq (P .doing)) (B refl) in
+      let T : eqb (wordOf x words) (keptOf x q) ≡ same (v .header) (keptWord (sequences x)) = test (P .seq (P .doing)) (B refl) in
       branch (λ (r : Step). Linked One s p x (StoreSwapsWord x) q words sequences r
-      (onWordSwap 1 p v rows (sequences x) (same (v .header) kept-word) (at-place (q .values))))
+      (onWordSwap 1 p v rows (sequences x) (same (v .header) (keptWord (sequences x))) (at-place (q .values))))
       (eqb (wordOf x words) (keptOf x q)) _ _
       (λ e. rw (sym T ∙ e) (record {
         stands = one-idle;

@@ -13,7 +13,7 @@ use Rattle.word.proofs.Laws.{tag-word, value-word, same-parts}
 use Rattle.rules.proofs.Demand3.Machine.{Versioned, stamp, same}
 use Rattle.rules.proofs.Demand3.Same.{same-true, same-false}
 
-pub eqb-iff : (a b c d : ℕ) → (a ≡ b → c ≡ d) → (c ≡ d → a ≡ b) → eqb a b ≡ eqb c d
+eqb-iff : (a b c d : ℕ) → (a ≡ b → c ≡ d) → (c ≡ d → a ≡ b) → eqb a b ≡ eqb c d
 eqb-iff a b c d f g = by (eqb c d) refl
   where
     by : (t : Bool) → eqb c d ≡ t → eqb a b ≡ t
@@ -36,7 +36,7 @@ mod-apart m a d l e = by (leb m (a % m + d)) refl
         let b : m ≤ a % m + d = leb-true m (a % m + d) q in
         omega (arith, r, k, mod-eq-sub-mod b, mod-eq-of-lt {n = (a % m + d) - m} {m = m} (omega (arith, r)))
 
-pub same-mod : (m a c : ℕ) → a ≤ c → c < a + m → c % m ≡ a % m → c ≡ a
+same-mod : (m a c : ℕ) → a ≤ c → c < a + m → c % m ≡ a % m → c ≡ a
 same-mod m a c l w e =
     let back : a + (c - a) ≡ c = omega arith in
     omega (arith, mod-apart m a (c - a) (omega arith) (rw back e))

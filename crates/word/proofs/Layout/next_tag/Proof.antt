@@ -15,7 +15,9 @@ rem-result : tie.Need-rem-result
 rem-result c = rw (c .tag-limit .ensures) (pow-pos _)
 
 returns : tie.Need-returns
-returns c = rw (c .tag-limit .ensures, c .before .wrapping-add-u64 .ensures) (laws.next-of (c .before .before .args .self .bits) (c .before .before .pre .1) _)
+returns c =
+    let start = c .before .before in
+    rw (c .tag-limit .ensures, c .before .wrapping-add-u64 .ensures) (laws.next-of (start .args .self .bits) (start .pre .1) _)
 
 pub next-tag-spec : {M : Type 1} → statement M
 next-tag-spec = tie.close (tie.spec wrapping-add-u64-requires tag-limit-requires rem-result returns)

@@ -15,7 +15,9 @@ rem-result : tie.Need-rem-result
 rem-result c = rw (c .tag-limit .ensures) (pow-pos _)
 
 returns : tie.Need-returns
-returns c = rw (c .tag-limit .ensures) (laws.previous-of (c .before .before .args .self .bits) (c .before .before .pre .1) _ _ (c .before .wrapping-sub-u64 .ensures))
+returns c =
+    let start = c .before .before in
+    rw (c .tag-limit .ensures) (laws.previous-of (start .args .self .bits) (start .pre .1) _ _ (c .before .wrapping-sub-u64 .ensures))
 
 pub previous-tag-spec : {M : Type 1} → statement M
 previous-tag-spec = tie.close (tie.spec wrapping-sub-u64-requires tag-limit-requires rem-result returns)

@@ -17,7 +17,14 @@ value-of-requires : tie.Need-value-of-requires
 value-of-requires c κs = search needs
 
 returns-3 : tie.Need-returns-3
-returns-3 c = simp (le-leb _ _ (c .before .before .before .if1 .left), le-leb _ _ (c .before .before .if2 .left), c .before .tag-of .ensures, c .value-of .ensures)
+returns-3 c =
+    let bits-test = c .before .before in
+    simp (
+      le-leb _ _ (bits-test .before .if1 .left),
+      le-leb _ _ (bits-test .if2 .left),
+      c .before .tag-of .ensures,
+      c .value-of .ensures,
+    )
 
 pub unpack-spec : {M : Type 1} → statement M
 unpack-spec = tie.close (tie.spec returns returns-2 tag-of-requires value-of-requires returns-3)

@@ -19,10 +19,14 @@ value-limit-requires : tie.Need-value-limit-requires
 value-limit-requires c κs = search needs
 
 mul-result : tie.Need-mul-result
-mul-result c = fits-le (le-add-right _ _) (fit (c .before .args .self .bits) (c .before .pre .1) (c .before .pre .2) (c .before .pre .3) (c .value-limit .ensures))
+mul-result c =
+    let start = c .before in
+    fits-le (le-add-right _ _) (fit (start .args .self .bits) (start .pre .1) (start .pre .2) (start .pre .3) (c .value-limit .ensures))
 
 add-result : tie.Need-add-result
-add-result c = fit (c .before .args .self .bits) (c .before .pre .1) (c .before .pre .2) (c .before .pre .3) (c .value-limit .ensures)
+add-result c =
+    let start = c .before in
+    fit (start .args .self .bits) (start .pre .1) (start .pre .2) (start .pre .3) (c .value-limit .ensures)
 
 returns : tie.Need-returns
 unfolding word

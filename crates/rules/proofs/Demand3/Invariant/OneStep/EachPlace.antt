@@ -3,8 +3,6 @@
 use mathlib.Core.Path.{_≡_, refl}
 use Prim.Native.Nat.{ℕ, suc, _+_, _<_}
 use lib.Dec.{eqb, ltb}
-use Rattle.rules.specs.declared.Kind.{Kind}
-use Rattle.rules.specs.declared.Kind.the-variants.{One, Many}
 use Rattle.rules.proofs.Demand3.Invariant.Kinds.{VarInvK, PairK, FineK, Fine}
 use Rattle.rules.proofs.Demand3.Invariant.Many.{VarInv, Pair}
 use Rattle.rules.proofs.Demand3.Invariant.OneStep.Copying.{at-readsSegment, at-readsAnnounced, at-swapsSegment, at-readsAgain}
@@ -14,6 +12,7 @@ use Rattle.rules.proofs.Demand3.Invariant.OneStep.OneWord.{one-fine}
 use Rattle.rules.proofs.Demand3.Invariant.OneStep.SegmentEnd.{at-readsHeader}
 use Rattle.rules.proofs.Demand3.Invariant.OneStep.Storing.{at-storeReads, at-announces, at-swapsHeader}
 use Rattle.rules.proofs.Demand3.Machine.{same, Place, idle, loadReads, validateReads, storeReads, announces, swapsHeader, readsSegment, readsAnnounced, swapsSegment, readsAgain, readsHeader, load, store, copies, Sequence, Var, rule, acts}
+use Rattle.rules.specs.Types.{Kind, One, Many}
 
 module _ (W p : ℕ) (v : Var) (rows : ℕ → ℕ → ℕ) (s : Sequence) (I : VarInv W v) (pos : 0 < W)
     (told : (i : ℕ) → i < W → suc (v .segment i .version) ≡ v .header .version → rows (v .header .value) i ≡ v .stored (v .header .version) i) where

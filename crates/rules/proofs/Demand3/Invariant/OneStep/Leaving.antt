@@ -6,7 +6,8 @@ use mathlib.Core.Bool.{true, false}
 use Prim.Native.Nat.{ℕ}
 use native.Mathlib.Omega.{arith}
 use Rattle.rules.specs.Figure2.{change, Returned}
-use Rattle.rules.proofs.Demand3.Change.{never, change-other}
+use Rattle.rules.proofs.Tests.{never}
+use Rattle.rules.proofs.Demand3.Change.{change-other}
 use Rattle.rules.proofs.Demand3.Invariant.Kinds.{Fine}
 use Rattle.rules.proofs.Demand3.Invariant.Many.{loading, storing, VarInv, Opened, Pair, Rely}
 use Rattle.rules.proofs.Demand3.Machine.{Place, idle, Sequence, shut, Var, goes}

@@ -7,7 +7,8 @@ use Prim.Native.Nat.{ℕ, _<_}
 use native.Mathlib.Omega.{arith}
 use borrow.Author.Tests.{eqb-false, eq-eqb}
 use Rattle.rules.specs.Figure2.{content, truth}
-use Rattle.rules.proofs.Demand3.Change.{never, change-same, change-other}
+use Rattle.rules.proofs.Tests.{never}
+use Rattle.rules.proofs.Demand3.Change.{change-same, change-other}
 use Rattle.rules.proofs.Demand3.Invariant.Kinds.{Fine}
 use Rattle.rules.proofs.Demand3.Invariant.Many.{VarInv, Opened, Pair}
 use Rattle.rules.proofs.Demand3.Invariant.OneStep.Leaving.{owing-inv, owing-rely}
@@ -63,7 +64,11 @@ module _ (W p : ℕ) (v : Var) (rows : ℕ → ℕ → ℕ) (s : Sequence) (I : 
       record {
         inv = owing-inv W p v (truth (v .seen .atomic .valid p)) I;
         rely = owing-rely W p v (truth (v .seen .atomic .valid p));
-        pair = record { seq = λ o. record { old = O .old; full = O .full; count = O .count; last = O .last; others = O .others; valid = O .valid }; lag = P .lag; doing = tt };
+        pair = record {
+          seq = λ o. record { old = O .old; full = O .full; count = O .count; last = O .last; others = O .others; valid = O .valid };
+          lag = P .lag;
+          doing = tt;
+        };
         counts = tt;
         right = (
           change-same (v .seen .due) p (truth (v .seen .atomic .valid p)) ∙ ap truth (O .valid),

@@ -9,7 +9,8 @@ use lib.Dec.{eqb}
 use borrow.Author.Tests.{eqb-false, eq-eqb, ne-eqb}
 use Rattle.rules.specs.Demand3.{Another}
 use Rattle.rules.specs.Figure2.{content, truth}
-use Rattle.rules.proofs.Demand3.Change.{never, change-same, change-other, each}
+use Rattle.rules.proofs.Tests.{never}
+use Rattle.rules.proofs.Demand3.Change.{change-same, change-other, each}
 use Rattle.rules.proofs.Demand3.Invariant.Kinds.{Fine₁}
 use Rattle.rules.proofs.Demand3.Invariant.One.{VarInv₁, Opened₁, Pair₁}
 use Rattle.rules.proofs.Demand3.Invariant.Since.{free[], some-other}
@@ -18,20 +19,20 @@ use Rattle.rules.proofs.Demand3.Same.{same-true, same-false}
 
 module _ (W p : ℕ) (v : Var) (rows : ℕ → ℕ → ℕ) (s : Sequence) (I : VarInv₁ v) where
   -- the words are the same exactly cond the versions are
-  test : Opened₁ p v s → same (v .header) (keptWord W p v rows s) ≡ eqb (v .header .version) (s .kept)
-  test O = by (same (v .header) (keptWord W p v rows s)) refl
+  test : Opened₁ p v s → same (v .header) (keptWord s) ≡ eqb (v .header .version) (s .kept)
+  test O = by (same (v .header) (keptWord s)) refl
     where
-      by : (t : Bool) → same (v .header) (keptWord W p v rows s) ≡ t → t ≡ eqb (v .header .version) (s .kept)
-      by true e = sym (eq-eqb (v .header .version) (s .kept) (same-true (v .header) (keptWord W p v rows s) e .0))
+      by : (t : Bool) → same (v .header) (keptWord s) ≡ t → t ≡ eqb (v .header .version) (s .kept)
+      by true e = sym (eq-eqb (v .header .version) (s .kept) (same-true (v .header) (keptWord s) e .0))
       by false e = sym (ne-eqb (v .header .version) (s .kept)
-          (λ k. same-false (v .header) (keptWord W p v rows s) e k (sym (O .whole (sym k)))))
+          (λ k. same-false (v .header) (keptWord s) e k (sym (O .whole (sym k)))))
 
-  missed : Opened₁ p v s → same (v .header) (keptWord W p v rows s) ≡ false → Another p (v .seen .since p)
+  missed : Opened₁ p v s → same (v .header) (keptWord s) ≡ false → Another p (v .seen .since p)
   missed O e = some-other p (v .seen .since p) (O .others) (omega
       (arith, O .count, O .old, eqb-false (v .header .version) (s .kept) (sym (test O) ∙ e)))
 
   one-storeReads : (new : ℕ → ℕ) → Pair₁ p v (rows p) s (storeReads new) → (t : Bool) →
-      same (v .header) (keptWord W p v rows s) ≡ t → Fine₁ W p v rows (onWordSwap 1 p v rows s t new)
+      same (v .header) (keptWord s) ≡ t → Fine₁ W p v rows (onWordSwap 1 p v rows s t new)
   one-storeReads new P true e =
       let O : Opened₁ p v s = P .seq (P .doing) in
       let f : v .seen .atomic .valid p ≡ true = O .valid ∙ sym (test O) ∙ e in
@@ -95,7 +96,7 @@ module _ (W p : ℕ) (v : Var) (rows : ℕ → ℕ → ℕ) (s : Sequence) (I : 
         counts = tt;
         right = (change-same (v .seen .due) p (truth (v .seen .atomic .valid p)) ∙ ap truth (O .valid ∙ sym (test O)), missed O);
       }
-  one-fine (storeReads new) P = one-storeReads new P (same (v .header) (keptWord W p v rows s)) refl
+  one-fine (storeReads new) P = one-storeReads new P (same (v .header) (keptWord s)) refl
   one-fine (announces new h i) P = absurd (P .doing)
   one-fine (swapsHeader new h) P = absurd (P .doing)
   one-fine (copies a h i ph) P = absurd (P .doing)

@@ -9,12 +9,13 @@ use native.Mathlib.Omega.{arith}
 use lib.Dec.{ltb}
 use borrow.Author.Tests.{ltb-true, ltb-false}
 use Rattle.rules.specs.Figure2.{change}
-use Rattle.rules.proofs.Demand3.Change.{never, change-all, each}
+use Rattle.rules.proofs.Tests.{never}
+use Rattle.rules.proofs.Demand3.Change.{change-all, each}
 use Rattle.rules.proofs.Demand3.Invariant.Kinds.{Fine}
 use Rattle.rules.proofs.Demand3.Invariant.Many.{VarInv, Opened, Checked, Loads, Copying, Pair}
 use Rattle.rules.proofs.Demand3.Invariant.OneStep.Leaving.{untouched, reseat, still, closed}
 use Rattle.rules.proofs.Demand3.Invariant.Since.{empty, first}
-use Rattle.rules.proofs.Demand3.Machine.{Versioned, same, readsSegment, readsHeader, Aim, load, store, copies, gather, Sequence, Var, goes, through, cutShort, onHeader}
+use Rattle.rules.proofs.Demand3.Machine.{Versioned, same, idle, readsSegment, readsHeader, Aim, load, store, copies, gather, Sequence, Var, goes, through, cutShort, onHeader}
 use Rattle.rules.proofs.Demand3.Same.{same-true, same-false}
 
 module _ (W p : ℕ) (v : Var) (rows : ℕ → ℕ → ℕ) (s : Sequence) (I : VarInv W v) where
@@ -30,6 +31,24 @@ module _ (W p : ℕ) (v : Var) (rows : ℕ → ℕ → ℕ) (s : Sequence) (I : 
         (j : ℕ) → j < (i + 1) → change g i y j ≡ v .stored (h .version) j
     gathered g e d = change-all (λ j b. j < (i + 1) → b ≡ v .stored (h .version) j) g i y (λ _. val e) (λ j n l. d j (omega (arith, n)))
 
+  -- a load is answered: its sequence stays open, and no segment lags behind it
+  load-ends : (g : ℕ → ℕ) (h : Versioned) (i : ℕ) (y : ℕ) → Pair W p v (rows p) s (copies (load g) h i (readsHeader y)) →
+      ((j : ℕ) → j < W → s .kept ≤ v .segment j .version) → Pair W p v (rows p) s idle
+  load-ends g h i y P none-lags =
+      let O : Opened W p v s (copies (load g) h i (readsHeader y)) = P .seq (P .doing .0 .open') in
+      record {
+        seq = λ o. record {
+          old = O .old;
+          full = λ _. none-lags;
+          count = O .count;
+          last = O .last;
+          others = O .others;
+          valid = O .valid;
+        };
+        lag = P .lag;
+        doing = tt;
+      }
+
   at-through : (a : Aim) (h : Versioned) (i : ℕ) (y : ℕ) → Pair W p v (rows p) s (copies a h i (readsHeader y)) →
       v .header .version ≡ h .version → W ≤ i + 1 →
       Fine W p v rows (through W p v rows s (gather a i y))
@@ -40,18 +59,7 @@ module _ (W p : ℕ) (v : Var) (rows : ℕ → ℕ → ℕ) (s : Sequence) (I : 
       record {
         inv = I;
         rely = λ r n. untouched W r v;
-        pair = record {
-          seq = λ o. record {
-            old = O .old;
-            full = λ _ j l. omega (arith, further h i y (P .doing .1) (D .done) j (omega arith), A .from);
-            count = O .count;
-            last = O .last;
-            others = O .others;
-            valid = O .valid;
-          };
-          lag = P .lag;
-          doing = tt;
-        };
+        pair = load-ends g h i y P (λ j l. omega (arith, further h i y (P .doing .1) (D .done) j (omega arith), A .from));
         counts = tt;
         right = (
           empty (v .seen .since p) (omega (arith, O .count, A .from)),
@@ -80,18 +88,7 @@ module _ (W p : ℕ) (v : Var) (rows : ℕ → ℕ → ℕ) (s : Sequence) (I : 
       record {
         inv = I;
         rely = λ r n. untouched W r v;
-        pair = record {
-          seq = λ o. record {
-            old = O .old;
-            full = λ _ j l. omega (arith, I .lo j l, A .from, D .old, n);
-            count = O .count;
-            last = O .last;
-            others = O .others;
-            valid = O .valid;
-          };
-          lag = P .lag;
-          doing = tt;
-        };
+        pair = load-ends g h i y P (λ j l. omega (arith, I .lo j l, A .from, D .old, n));
         counts = tt;
         right = first (v .header .value) (v .seen .since p) (O .last) (omega (arith, O .count, A .from, D .old, n));
       }

@@ -8,7 +8,8 @@ use native.Mathlib.Omega.{arith}
 use lib.Dec.{eqb, ltb}
 use borrow.Author.Tests.{eqb-true, eqb-false, eq-eqb, ne-eqb, ltb-true, ltb-false}
 use Rattle.rules.specs.Figure2.{change, truth}
-use Rattle.rules.proofs.Demand3.Change.{never, change-same, change-other, change-all}
+use Rattle.rules.proofs.Tests.{never}
+use Rattle.rules.proofs.Demand3.Change.{change-same, change-other, change-all}
 use Rattle.rules.proofs.Demand3.Invariant.Kinds.{Fine}
 use Rattle.rules.proofs.Demand3.Invariant.Many.{storing, Storing, VarInv, Opened, Telling, Pair}
 use Rattle.rules.proofs.Demand3.Invariant.OneStep.Leaving.{untouched, reseat, still, closed, owing, owing-inv, owing-rely}
