@@ -1,13 +1,12 @@
 -- What good form gives at each place. Assumes nothing.
-use mathlib.Core.Path.{_≡_, refl, sym, ap, _∙_, subst}
-use mathlib.Core.Bool.{Bool, true, false, _&&_}
-use mathlib.Core.List.{List}
-use Prim.Native.Nat.{ℕ, _≤_, _<_, _^_}
+use mathlib.Core.Path.{_≡_, refl, subst}
+use mathlib.Core.Bool.{Bool, true, _&&_}
+use Prim.Native.Nat.{ℕ, _≤_, _<_}
 use lib.Dec.{ltb}
 use lib.ListN.{getD}
 use borrow.Author.Tests.{ltb-true}
 use Rattle.word.specs.Word.{valueLimit, valueOf}
-use Rattle.rules.specs.GoodForm.{names, valueFits, onePlace, manyPlace, onePlaceOpen, manyPlaceOpen, headerHeld, segmentHeld, valueHeld, placeFits, valuesFit, keptFit, openFits, processFits, wordsFit, wordsFitBy, headersFit, rowsFit}
+use Rattle.rules.specs.GoodForm.{names, valueFits, onePlace, manyPlace, onePlaceOpen, manyPlaceOpen, headerHeld, segmentHeld, valueHeld, placeFits, valuesFit, keptFit, openFits, processFits}
 use Rattle.rules.specs.Processes.{isOpen}
 use Rattle.rules.specs.Sizes.{bits, isOne, isMany, wordsUsed, usedBy}
 use Rattle.rules.specs.declared.Copy.{Copy}
@@ -25,10 +24,6 @@ one-kind Many e = cc
 pub many-kind : (k : Kind) → isMany k ≡ true → k ≡ Many
 many-kind One e = cc
 many-kind Many e = refl
-
-pub many-not-one : (k : Kind) → isOne k ≡ false → k ≡ Many
-many-not-one One e = cc
-many-not-one Many e = refl
 
 module _ (s : Settings) where
   pub many-used-by : s .kind ≡ Many → (n : ℕ) → wordsUsed s ≤ n → usedBy Many s ≤ n
@@ -119,17 +114,3 @@ module _ (s : Settings) (p : Process) where
   pub value-in : processFits s p ≡ true → (i : ℕ) → i < 4 → getD (p .values) i 0 < valueLimit (bits s)
   unfolding valuesFit valueFits
   value-in e i h = ltb-true _ _ (all-at (λ j. ltb (getD (p .values) j 0) (valueLimit (bits s))) i 4 (clauses e .values) h)
-
-module _ (s : Settings) (m : List ℕ) where
-  words-by : (k : Kind) → s .kind ≡ k → wordsFit s m ≡ wordsFitBy k s m
-  unfolding wordsFit
-  words-by k e = ap (λ (x : Kind). wordsFitBy x s m) e
-
-  pub words-one : s .kind ≡ One → wordsFit s m ≡ true
-  words-one e = words-by One e
-
-  pub words-no : s .kind ≡ Many → headersFit s m ≡ false → wordsFit s m ≡ false
-  words-no e h = words-by Many e ∙ rw h
-
-  pub words-many : s .kind ≡ Many → headersFit s m ≡ true → wordsFit s m ≡ rowsFit s m
-  words-many e h = words-by Many e ∙ rw h

@@ -8,7 +8,7 @@ use borrow.Author.Tests.{ltb-true, lt-ltb}
 use lib.Dec.{eqb, ltb}
 use lib.ListN.{getD}
 use lib.Pow.{pow-mono}
-use Rattle.word.specs.Word.{word, tagOf, valueOf, nextTag, previousTag, tagLimit, valueLimit}
+use Rattle.word.specs.Word.{tagOf, valueOf, nextTag, previousTag, tagLimit, valueLimit}
 use Rattle.word.proofs.Laws.{value-word, value-lt, word-lt, tag-lt, next-lt}
 use Rattle.rules.specs.Bounds.{Sized}
 use Rattle.rules.specs.Figure4.{Step, newWord}

@@ -11,7 +11,7 @@ use lib.Arith.{digits-lt, lt-of-le-ne}
 use lib.Count.{ones, onesIn, ones-cat}
 use lib.Dec.{eqb, leb}
 use lib.Pow.{pow-pos, pow-lt, pow-add, mod-pow-add, shr-lt, shr-shr}
-use Rattle.rules.specs.Processes.{isOpen, withOpen, withClosed, openCount}
+use Rattle.rules.specs.Processes.{isOpen, withOpen, openCount}
 
 two-pos : 0 < 2
 two-pos = omega arith

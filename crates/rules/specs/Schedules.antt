@@ -5,7 +5,6 @@ use Prim.Native.Nat.{ℕ, zero, suc}
 use lib.ListN.{replicate}
 use Rattle.word.specs.Packing.{packRule}
 use Rattle.word.specs.Word.{nextTag, previousTag}
-use Rattle.word.specs.declared.Packed.{Packed}
 use Rattle.word.specs.declared.Packed.the-variants.{Word}
 use Rattle.word.specs.declared.Refusal.the-variants.{SettingOutsideSizes, NoOpenSequence, ValueTooGreat, ProcessIdle}
 use Rattle.rules.specs.Entry.{setUpRule}
