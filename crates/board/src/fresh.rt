@@ -1,11 +1,9 @@
-// A fresh board: every word and keep-word 0, every process idle and no sequence open.
+// Set-up: a fresh board has every word and keep-word 0, every process idle and no sequence open; a refused one is blank.
 ghost use mathlib.Core.Path.{_≡_};
 ghost use mathlib.Core.List.{List, _++_};
 ghost use Prim.Native.Nat.{ℕ, _≤_};
 ghost use lib.ListN.{length, replicate, drop};
-ghost use Rattle.rules.specs.Bounds.{Sized};
-ghost use Rattle.rules.specs.Entry.{freshProcess, freshBoard, blankBoard, freshWords, setUpRule};
-ghost use Rattle.rules.specs.Sizes.{wordsUsed};
+ghost use Rattle.rules.specs.Entry.{freshProcess, freshBoard, blankBoard, setUpRule};
 ghost use Rattle.rules.specs.declared.SetUp.{SetUp};
 use crate::checks::sizes_check;
 use form::words_used;

@@ -1,4 +1,4 @@
-// What a begin checks of a process and a call: refusals 5 to 8, in order.
+// What a begin checks of a process and a call: refusals 5 to 8, in document 01's order.
 ghost use mathlib.Core.Path.{_≡_};
 ghost use mathlib.Core.Bool.{_&&_, _||_};
 ghost use Prim.Native.Nat.{_<_};
@@ -48,6 +48,7 @@ fn variable_of(call: Call) -> usize
     }
 }
 
+// A validate or a store needs an open sequence.
 fn lacks_sequence(call: Call, opened: u16) -> bool
     requires { ⌜ variableOf call < 16 ⌝ }
     ensures { λ r. ⌜ r ≡ lacksSequence call opened ⌝ }
@@ -80,6 +81,7 @@ fn is_storable(s: Settings, i: usize, value: u64) -> bool
     value_fits(s, value) & ((i < s.w) | (value == 0))
 }
 
+// A store's values: each may stand where it is.
 fn storable(s: Settings, values: Values) -> bool
     requires { ⌜ Sized s ⌝ }
     ensures { λ r. ⌜ r ≡ storable s values ⌝ }
@@ -94,6 +96,7 @@ fn storable(s: Settings, values: Values) -> bool
     true
 }
 
+// A load or a validate has no values.
 fn values_right(s: Settings, call: Call, values: Values) -> bool
     requires { ⌜ Sized s ⌝ }
     ensures { λ r. ⌜ r ≡ valuesRight s call values ⌝ }
@@ -105,6 +108,7 @@ fn values_right(s: Settings, call: Call, values: Values) -> bool
     }
 }
 
+// The first of 5 to 8 that holds.
 pub(crate) fn call_check(s: Settings, p: Process, call: Call, values: Values) -> Check
     requires { ⌜ Sized s ⌝ }
     ensures { λ r. ⌜ r ≡ callCheck s p call values ⌝ }

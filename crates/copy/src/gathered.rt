@@ -37,7 +37,7 @@ fn store_ends(c: Copy, p: Process) -> Moved
 }
 
 // 9, 12: Copy is through: a load answers the values gathered.
-pub(crate) fn copy_through(c: Copy, p: Process) -> Moved
+fn copy_through(c: Copy, p: Process) -> Moved
     requires { ⌜ c .variable < 16 ⌝ }
     ensures { λ r. ⌜ r ≡ copyThrough c p ⌝ }
 {

@@ -1,5 +1,5 @@
 // The code of Figure 6's Copy, with document 01's mended line 6: a function for each place, which takes the step from
-// there, and the segments one after another. The numbers are the figure's lines.
+// there. The numbers are the figure's lines.
 ghost use mathlib.Core.Path.{_≡_};
 ghost use Prim.Native.Nat.{_≤_, _<_};
 ghost use lib.ListN.{length};

@@ -8,7 +8,10 @@ use rules::Process;
 use rules::Settings;
 use word::Layout;
 
+// No greater word, and no greater number of anything.
 const GREATEST: u64 = 18446744073709551615;
+
+const FARTHEST: usize = 18446744073709551615;
 
 // The first number that is no value, at 8 tag bits.
 const VALUES: u64 = 72057594037927936;
@@ -27,6 +30,7 @@ pub struct Case {
     pub values: [u64; 4],
 }
 
+// Kind 0 is `one`, any other `many`.
 fn settings(kind: usize, n: usize, t: usize, b: u64, w: usize) -> Settings {
     if kind == 0 {
         return Settings {
@@ -46,6 +50,7 @@ fn settings(kind: usize, n: usize, t: usize, b: u64, w: usize) -> Settings {
     }
 }
 
+// Two processes and three variables, with one segment or two.
 fn small(kind: usize) -> Settings {
     if kind == 0 {
         return settings(0, 2, 3, 8, 1);
@@ -107,7 +112,7 @@ fn held(k: usize) -> Case {
         0 => 0,
         1 => 1,
         2 => 2,
-        _ => 18446744073709551615,
+        _ => FARTHEST,
     };
     let value = match k / 84 % 2 {
         0 => VALUES - 1,
@@ -171,13 +176,14 @@ fn words(k: usize) -> Case {
     c
 }
 
+// Settings at and past their ends: N or T, b, W.
 fn count(code: usize) -> usize {
     match code {
         0 => 0,
         1 => 1,
         2 => 16,
         3 => 17,
-        _ => 18446744073709551615,
+        _ => FARTHEST,
     }
 }
 
@@ -199,7 +205,7 @@ fn segments(code: usize) -> usize {
         2 => 2,
         3 => 4,
         4 => 5,
-        _ => 18446744073709551615,
+        _ => FARTHEST,
     }
 }
 
@@ -235,6 +241,7 @@ fn lent(k: usize) -> Case {
     c
 }
 
+// No word, one less and one more than those used, as many, and all.
 fn around(code: usize, used: usize) -> usize {
     if used < 1 {
         return 0;
@@ -262,7 +269,7 @@ fn numbers(k: usize) -> Case {
         2 => 2,
         3 => 15,
         4 => 16,
-        _ => 18446744073709551615,
+        _ => FARTHEST,
     };
     c
 }
@@ -278,7 +285,7 @@ fn calls(k: usize) -> Case {
         0 => 0,
         1 => 2,
         2 => 3,
-        _ => 18446744073709551615,
+        _ => FARTHEST,
     };
     c.values = match k / 32 % 5 {
         0 => [0, 0, 0, 0],
@@ -290,6 +297,7 @@ fn calls(k: usize) -> Case {
     c
 }
 
+// Case k of family f.
 pub(crate) fn case_of(f: usize, k: usize) -> Case {
     match f {
         0 => places(0, k),

@@ -3,6 +3,7 @@ use rules::Copy;
 use rules::Place;
 use rules::Process;
 
+// Place 0, and any past the last, is idle.
 pub(crate) fn place_of(code: usize, x: usize, header: u64, i: usize, value: u64) -> Place {
     let c = Copy {
         variable: x,
@@ -28,6 +29,7 @@ pub(crate) fn place_of(code: usize, x: usize, header: u64, i: usize, value: u64)
     }
 }
 
+// A process there, with these sequences open and every number 0.
 pub(crate) fn process_at(place: Place, opened: u16) -> Process {
     let keep = [0u64; 16];
     let values = [0u64; 4];

@@ -4,7 +4,6 @@ ghost use mathlib.Core.Path.{_≡_};
 ghost use Rattle.word.specs.Refusals.{number};
 use crate::cases::Case;
 use rules::Answer;
-use rules::Answered;
 use rules::Board;
 use rules::Call;
 use rules::OpenCount;

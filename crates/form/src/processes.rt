@@ -58,7 +58,7 @@ fn open_fits(s: Settings, opened: u16) -> bool
     (opened as u64) < (1 << (s.t as u64))
 }
 
-pub(crate) fn process_fits(s: Settings, p: Process) -> bool
+fn process_fits(s: Settings, p: Process) -> bool
     requires { ⌜ Sized s ⌝ }
     ensures { λ r. ⌜ r ≡ processFits s p ⌝ }
 {

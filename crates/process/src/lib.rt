@@ -39,7 +39,7 @@ fn with_closed(mask: u16, x: usize) -> u16
     mask
 }
 
-pub fn at_place(place: Place, p: Process) -> Process
+fn at_place(place: Place, p: Process) -> Process
     ensures { λ r. ⌜ r ≡ at place p ⌝ }
 {
     let keep = p.keep;

@@ -8,7 +8,7 @@ use native.Mathlib.Omega.{arith}
 use Rattle.word.specs.Word.{valueOf, valueLimit}
 use Rattle.rules.specs.Bounds.{Sized}
 use Rattle.rules.specs.Figure4.{Step}
-use Rattle.rules.specs.GoodForm.{onePlace, manyPlace, headerHeld, segmentHeld, copyHeld, processFits}
+use Rattle.rules.specs.GoodForm.{onePlace, manyPlace, headerHeld, copyHeld, processFits}
 use Rattle.rules.specs.Sizes.{bits, wordsUsed, usedBy}
 use Rattle.rules.specs.Steps.{stepFrom, processStep}
 use Rattle.rules.specs.declared.Copy.{Copy}

@@ -1,11 +1,13 @@
-use Rattle.board.specs.LaidBack.{laidBack}
+-- `begin` meets its contract: past the check, what the one process makes of the call is laid back; else it is
+-- refused. Assumes nothing.
+use mathlib.Core.Path.{ap, _∙_, sym}
+use native.Mathlib.Omega.{arith}
+use borrow.Author.Needs.{needs}
 use Rattle.rules.specs.declared.Moved.{Moved}
-use Rattle.board.proofs.Serving.{begin-served}
 use Rattle.rules.proofs.Refusals.Refusing.{begin-refused-first}
 use Rattle.rules.proofs.Refusals.Served.{Served, served}
-use native.Mathlib.Omega.{arith}
-use mathlib.Core.Path.{ap, _∙_, sym}
-use borrow.Author.Needs.{needs}
+use Rattle.board.specs.LaidBack.{laidBack}
+use Rattle.board.proofs.Serving.{begin-served}
 use Rattle.board.proofs.begin.Statement.{statement}
 use Rattle.board.proofs.begin.Tie as tie
 
@@ -16,7 +18,10 @@ enum-told : tie.Need-enum-told
 enum-told c = search needs
 
 -- past the check, the board can be served for the process
-ready : (told : tie.After-enum-told) → let args = told .before .before .before .before .before .args in Served (args .t1) (args .me) (args .mem .now)
+ready :
+    (told : tie.After-enum-told)
+    → let args = told .before .before .before .before .before .args in
+    Served (args .t1) (args .me) (args .mem .now)
 ready told =
     let args = told .before .before .before .before .before .args in
     served (args .t1) (args .me) (args .mem .now) (sym (told .before .before .process-check .ensures) ∙ told .enum-told .given .1)

@@ -1,10 +1,12 @@
+-- `open_count` meets its contract: past the check, the ones of the mask of the one process; else it is refused.
+-- Assumes nothing.
+use mathlib.Core.Path.{_∙_, sym}
+use native.Mathlib.Omega.{arith}
+use borrow.Author.Needs.{needs}
 use Rattle.rules.specs.Processes.{processAt}
 use Rattle.rules.proofs.GoodForm.Held as held
-use native.Mathlib.Omega.{arith}
 use Rattle.rules.proofs.Refusals.Served.{Served, served}
 use Rattle.rules.specs.Entry as entry
-use mathlib.Core.Path.{_∙_, sym}
-use borrow.Author.Needs.{needs}
 use Rattle.board.proofs.open_count.Statement.{statement}
 use Rattle.board.proofs.open_count.Tie as tie
 
@@ -15,7 +17,10 @@ enum-told : tie.Need-enum-told
 enum-told c = search needs
 
 -- past the check, the board can be served for the process
-ready : (told : tie.After-enum-told) → let args = told .before .before .before .before .before .args in Served (args .t1) (args .me) (args .mem .now)
+ready :
+    (told : tie.After-enum-told)
+    → let args = told .before .before .before .before .before .args in
+    Served (args .t1) (args .me) (args .mem .now)
 ready told =
     let args = told .before .before .before .before .before .args in
     served (args .t1) (args .me) (args .mem .now) (sym (told .before .before .process-check .ensures) ∙ told .enum-told .given .1)

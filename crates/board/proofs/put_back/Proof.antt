@@ -1,3 +1,4 @@
+-- `put_back` meets its contract. Assumes nothing.
 use borrow.Author.Needs.{needs}
 use Rattle.board.proofs.put_back.Statement.{statement}
 use Rattle.board.proofs.put_back.Tie as tie

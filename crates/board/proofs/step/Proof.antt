@@ -1,12 +1,14 @@
+-- `step` meets its contract: past the check, the one process steps and is laid back; else it is refused. Assumes
+-- nothing.
+use mathlib.Core.Path.{ap, _∙_, sym}
+use native.Mathlib.Omega.{arith}
+use borrow.Author.Needs.{needs}
 use Rattle.rules.specs.Figure4.{Step}
 use Rattle.rules.specs.Entry.{stepped}
 use Rattle.rules.specs.declared.Answered.{Answered}
 use Rattle.rules.proofs.Refusals.OneProcess.{step-served}
 use Rattle.rules.proofs.Refusals.Refusing.{step-refused-first}
 use Rattle.rules.proofs.Refusals.Served.{Served, served}
-use native.Mathlib.Omega.{arith}
-use mathlib.Core.Path.{ap, _∙_, sym}
-use borrow.Author.Needs.{needs}
 use Rattle.board.proofs.step.Statement.{statement}
 use Rattle.board.proofs.step.Tie as tie
 
@@ -17,7 +19,10 @@ enum-told : tie.Need-enum-told
 enum-told c = search needs
 
 -- past the check, the board can be served for the process
-ready : (told : tie.After-enum-told) → let args = told .before .before .before .before .before .before .args in Served (args .t1) (args .me) (args .mem .now)
+ready :
+    (told : tie.After-enum-told)
+    → let args = told .before .before .before .before .before .before .args in
+    Served (args .t1) (args .me) (args .mem .now)
 ready told =
     let args = told .before .before .before .before .before .before .args in
     served (args .t1) (args .me) (args .mem .now) (sym (told .before .before .process-check .ensures) ∙ told .enum-told .given .1)

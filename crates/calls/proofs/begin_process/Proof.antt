@@ -1,6 +1,7 @@
-use Rattle.calls.specs.OneProcess as one-process
+-- `begin_process` meets its contract. Assumes nothing.
 use mathlib.Core.Path.{_∙_, sym}
 use borrow.Author.Needs.{needs}
+use Rattle.calls.specs.OneProcess as one-process
 use Rattle.calls.proofs.begin_process.Statement.{statement}
 use Rattle.calls.proofs.begin_process.Tie as tie
 

@@ -1,5 +1,6 @@
-use Rattle.rules.specs.GoodForm as form
+-- `sequences_open` meets its contract: the ones of the mask are the open variables below T. Assumes nothing.
 use borrow.Author.Tests.{ltb-true}
+use Rattle.rules.specs.GoodForm as form
 use Rattle.rules.proofs.Sequences.Counts.{counted}
 use Rattle.calls.proofs.sequences_open.Statement.{statement}
 use Rattle.calls.proofs.sequences_open.Tie as tie

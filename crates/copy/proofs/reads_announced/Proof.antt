@@ -1,3 +1,4 @@
+-- `reads_announced` meets its contract. Assumes nothing.
 use borrow.Author.Needs.{needs}
 use Rattle.copy.proofs.reads_announced.Statement.{statement}
 use Rattle.copy.proofs.reads_announced.Tie as tie

@@ -1,7 +1,8 @@
-use Rattle.word.proofs.Laws.{tag-lt}
+-- `reads_segment` meets its contract. Assumes nothing.
 use mathlib.Core.Path.{sym}
 use borrow.Author.Tests.{eq-eqb, ne-eqb}
 use borrow.Author.Needs.{needs}
+use Rattle.word.proofs.Laws.{tag-lt}
 use Rattle.copy.proofs.reads_segment.Statement.{statement}
 use Rattle.copy.proofs.reads_segment.Tie as tie
 
@@ -18,7 +19,9 @@ tag-of-requires : tie.Need-tag-of-requires
 tag-of-requires c κs = search needs
 
 previous-tag-requires : tie.Need-previous-tag-requires
-previous-tag-requires c κs = (search needs, search needs, rw (c .tag-of .ensures) (tag-lt _ (c .before .before .before .before .pre .0 .b-most) (search needs)))
+previous-tag-requires c κs =
+    let sizes = c .before .before .before .before .pre .0 in
+    (search needs, search needs, rw (c .tag-of .ensures) (tag-lt _ (sizes .b-most) (search needs)))
 
 tag-of-requires-2 : tie.Need-tag-of-requires-2
 tag-of-requires-2 c κs = search needs
@@ -46,7 +49,8 @@ returns-2 c =
     let header-tag = c .before .before .before .before .before .tag-of .ensures in
     let before = c .before .before .before .before .previous-tag .ensures in
     let tag = c .before .before .before .tag-of2 .ensures in
-    simp (c .goes-on2 .ensures, c .before .value-of .ensures, sym segment, sym header-tag, sym before, sym tag, ne-eqb _ _ (c .before .before .if1 .left))
+    let other = ne-eqb _ _ (c .before .before .if1 .left) in
+    simp (c .goes-on2 .ensures, c .before .value-of .ensures, sym segment, sym header-tag, sym before, sym tag, other)
 
 pub reads-segment-spec : {M : Type 1} → statement M
 reads-segment-spec =

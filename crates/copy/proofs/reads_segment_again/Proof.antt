@@ -1,3 +1,4 @@
+-- `reads_segment_again` meets its contract. Assumes nothing.
 use borrow.Author.Needs.{needs}
 use Rattle.copy.proofs.reads_segment_again.Statement.{statement}
 use Rattle.copy.proofs.reads_segment_again.Tie as tie

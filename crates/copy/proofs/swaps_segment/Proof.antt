@@ -1,7 +1,8 @@
-use Rattle.word.proofs.Laws.{tag-lt}
+-- `swaps_segment` meets its contract. Assumes nothing.
 use mathlib.Core.Path.{sym}
 use borrow.Author.Tests.{eq-eqb, ne-eqb}
 use borrow.Author.Needs.{needs}
+use Rattle.word.proofs.Laws.{tag-lt}
 use Rattle.copy.proofs.swaps_segment.Statement.{statement}
 use Rattle.copy.proofs.swaps_segment.Tie as tie
 
@@ -36,8 +37,10 @@ same-length c = search needs
 
 returns : tie.Need-returns
 returns c =
-    let segment = c .before .before .before .before .before .segment-at .ensures .0 in
-    simp (c .goes-on .ensures, c .before .word-of .ensures, c .before .before .tag-of .ensures, sym segment, eq-eqb _ _ (c .before .before .before .if1 .taken))
+    let tag = c .before .before in
+    let segment = tag .before .before .before .segment-at .ensures .0 in
+    let same = eq-eqb _ _ (tag .before .if1 .taken) in
+    simp (c .goes-on .ensures, c .before .word-of .ensures, tag .tag-of .ensures, sym segment, same)
 
 goes-on-requires-2 : tie.Need-goes-on-requires-2
 goes-on-requires-2 c κs = search needs

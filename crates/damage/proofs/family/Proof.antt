@@ -1,6 +1,7 @@
+-- `family` meets its contract. The invariant: k is at most the count. Assumes nothing.
 use Prim.Native.Nat.{_≤_, _-_}
-use borrow.Author.Needs.{needs}
 use native.Mathlib.Omega.{arith}
+use borrow.Author.Needs.{needs}
 use Rattle.damage.proofs.family.Statement.{statement}
 use Rattle.damage.proofs.family.Tie as tie
 

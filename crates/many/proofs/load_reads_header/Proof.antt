@@ -1,3 +1,4 @@
+-- `load_reads_header` meets its contract. Assumes nothing.
 use borrow.Author.Needs.{needs}
 use Rattle.many.proofs.load_reads_header.Statement.{statement}
 use Rattle.many.proofs.load_reads_header.Tie as tie

@@ -1,3 +1,4 @@
+-- `load_reads_word` meets its contract. Assumes nothing.
 use borrow.Author.Needs.{needs}
 use Rattle.one.proofs.load_reads_word.Statement.{statement}
 use Rattle.one.proofs.load_reads_word.Tie as tie
@@ -21,7 +22,9 @@ ends-with-requires : tie.Need-ends-with-requires
 ends-with-requires c κs = search needs
 
 returns : tie.Need-returns
-returns c = simp (c .ends-with .ensures, c .before .opening .ensures, c .before .before .keeping .ensures, c .before .before .before .value-of .ensures)
+returns c =
+    let kept = c .before .before in
+    simp (c .ends-with .ensures, c .before .opening .ensures, kept .keeping .ensures, kept .before .value-of .ensures)
 
 pub load-reads-word-spec : {M : Type 1} → statement M
 load-reads-word-spec =

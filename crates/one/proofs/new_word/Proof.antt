@@ -1,8 +1,9 @@
-use Rattle.rules.specs.Sizes.{bits}
-use Rattle.word.specs.Word.{tagLimit}
+-- `new_word` meets its contract: the next tag is a tag, so that the word can be made. Assumes nothing.
 use Prim.Native.Nat.{_<_}
-use Rattle.word.proofs.Laws.{tag-lt, next-lt}
 use borrow.Author.Needs.{needs}
+use Rattle.word.specs.Word.{tagLimit}
+use Rattle.word.proofs.Laws.{tag-lt, next-lt}
+use Rattle.rules.specs.Sizes.{bits}
 use Rattle.one.proofs.new_word.Statement.{statement}
 use Rattle.one.proofs.new_word.Tie as tie
 

@@ -1,3 +1,4 @@
+-- `store_swaps_word` meets its contract. Assumes nothing.
 use mathlib.Core.Path.{sym}
 use borrow.Author.Tests.{eq-eqb, ne-eqb}
 use borrow.Author.Needs.{needs}
@@ -33,8 +34,10 @@ same-length c = search needs
 
 returns : tie.Need-returns
 returns c =
-    let kept = c .before .before .before .before .before .kept-of .ensures in
-    rw (c .ends .ensures, c .before .closing .ensures, c .before .before .new-word .ensures, ← kept, eq-eqb _ _ (c .before .before .before .if1 .taken))
+    let swapped = c .before .before in
+    let kept = swapped .before .before .before .kept-of .ensures in
+    let same = eq-eqb _ _ (swapped .before .if1 .taken) in
+    rw (c .ends .ensures, c .before .closing .ensures, swapped .new-word .ensures, ← kept, same)
 
 closing-requires-2 : tie.Need-closing-requires-2
 closing-requires-2 c κs = search needs

@@ -1,3 +1,4 @@
+-- `closing` meets its contract. Assumes nothing.
 use borrow.Author.Needs.{needs}
 use Rattle.process.proofs.closing.Statement.{statement}
 use Rattle.process.proofs.closing.Tie as tie

@@ -1,3 +1,4 @@
+-- `ends_with` meets its contract. Assumes nothing.
 use borrow.Author.Needs.{needs}
 use Rattle.process.proofs.ends_with.Statement.{statement}
 use Rattle.process.proofs.ends_with.Tie as tie

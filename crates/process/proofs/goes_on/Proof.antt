@@ -1,3 +1,4 @@
+-- `goes_on` meets its contract. Assumes nothing.
 use borrow.Author.Needs.{needs}
 use Rattle.process.proofs.goes_on.Statement.{statement}
 use Rattle.process.proofs.goes_on.Tie as tie

@@ -1,3 +1,4 @@
+-- `is_open` meets its contract. Assumes nothing.
 use borrow.Author.Needs.{needs}
 use Rattle.process.proofs.is_open.Statement.{statement}
 use Rattle.process.proofs.is_open.Tie as tie

@@ -1,3 +1,4 @@
+-- `opening` meets its contract. Assumes nothing.
 use borrow.Author.Needs.{needs}
 use Rattle.process.proofs.opening.Statement.{statement}
 use Rattle.process.proofs.opening.Tie as tie

@@ -1,7 +1,8 @@
-use Rattle.rules.proofs.Sequences.Masks.{bit, open-le}
-use Rattle.rules.specs.Processes.{withClosed}
+-- `with_closed` meets its contract: an open bit can be taken off. Assumes nothing.
 use mathlib.Core.Path.{sym, _∙_}
 use borrow.Author.Needs.{needs}
+use Rattle.rules.proofs.Sequences.Masks.{bit, open-le}
+use Rattle.rules.specs.Processes.{withClosed}
 use Rattle.process.proofs.with_closed.Statement.{statement}
 use Rattle.process.proofs.with_closed.Tie as tie
 

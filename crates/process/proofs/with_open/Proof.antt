@@ -1,7 +1,8 @@
-use Rattle.rules.proofs.Sequences.Masks.{bit, open-in}
-use Rattle.rules.specs.Processes.{withOpen}
+-- `with_open` meets its contract: a shut bit added stays within 16 bits. Assumes nothing.
 use mathlib.Core.Path.{sym, _∙_}
 use borrow.Author.Needs.{needs}
+use Rattle.rules.proofs.Sequences.Masks.{bit, open-in}
+use Rattle.rules.specs.Processes.{withOpen}
 use Rattle.process.proofs.with_open.Statement.{statement}
 use Rattle.process.proofs.with_open.Tie as tie
 

@@ -1,3 +1,4 @@
+-- `beginning` meets its contract. Assumes nothing.
 use borrow.Author.Needs.{needs}
 use Rattle.steps.proofs.beginning.Statement.{statement}
 use Rattle.steps.proofs.beginning.Tie as tie

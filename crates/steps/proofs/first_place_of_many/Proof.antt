@@ -1,3 +1,4 @@
+-- `first_place_of_many` meets its contract. Assumes nothing.
 use borrow.Author.Needs.{needs}
 use Rattle.steps.proofs.first_place_of_many.Statement.{statement}
 use Rattle.steps.proofs.first_place_of_many.Tie as tie

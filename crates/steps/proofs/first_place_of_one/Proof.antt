@@ -1,3 +1,4 @@
+-- `first_place_of_one` meets its contract. Assumes nothing.
 use borrow.Author.Needs.{needs}
 use Rattle.steps.proofs.first_place_of_one.Statement.{statement}
 use Rattle.steps.proofs.first_place_of_one.Tie as tie

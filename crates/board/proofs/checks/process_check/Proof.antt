@@ -1,7 +1,8 @@
-use Rattle.rules.proofs.Refusals.Served.{sizes-served}
-use Rattle.rules.specs.Refusals as refusals
+-- `process_check` meets its contract: 1 and 2, then 3 and 4. Assumes nothing.
 use mathlib.Core.Path.{_∙_, sym}
 use borrow.Author.Needs.{needs}
+use Rattle.rules.proofs.Refusals.Served.{sizes-served}
+use Rattle.rules.specs.Refusals as refusals
 use Rattle.board.proofs.checks.process_check.Statement.{statement}
 use Rattle.board.proofs.checks.process_check.Tie as tie
 

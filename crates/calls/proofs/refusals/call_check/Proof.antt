@@ -1,7 +1,8 @@
-use Rattle.rules.specs.Refusals as refusals
+-- `call_check` meets its contract: 5 to 8, each past those before it. Assumes nothing.
 use mathlib.Core.Path.{_∙_, sym}
 use borrow.Author.Tests.{le-leb, lt-leb, not-true, not-false}
 use borrow.Author.Needs.{needs}
+use Rattle.rules.specs.Refusals as refusals
 use Rattle.calls.proofs.refusals.call_check.Statement.{statement}
 use Rattle.calls.proofs.refusals.call_check.Tie as tie
 

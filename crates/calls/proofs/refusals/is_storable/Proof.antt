@@ -1,3 +1,4 @@
+-- `is_storable` meets its contract. Assumes nothing.
 use borrow.Author.Needs.{needs}
 use Rattle.calls.proofs.refusals.is_storable.Statement.{statement}
 use Rattle.calls.proofs.refusals.is_storable.Tie as tie

@@ -1,8 +1,9 @@
+-- `lacks_sequence` meets its contract: a variable below 16 has its bit in the mask. Assumes nothing.
 use mathlib.Core.Path.{subst}
-use Rattle.rules.specs.declared.Call.{Call}
-use Rattle.rules.specs.Refusals.{variableOf}
 use Prim.Native.Nat.{_<_}
 use borrow.Author.Needs.{needs}
+use Rattle.rules.specs.declared.Call.{Call}
+use Rattle.rules.specs.Refusals.{variableOf}
 use Rattle.calls.proofs.refusals.lacks_sequence.Statement.{statement}
 use Rattle.calls.proofs.refusals.lacks_sequence.Tie as tie
 

@@ -1,3 +1,4 @@
+-- `values_right` meets its contract. Assumes nothing.
 use borrow.Author.Needs.{needs}
 use Rattle.calls.proofs.refusals.values_right.Statement.{statement}
 use Rattle.calls.proofs.refusals.values_right.Tie as tie

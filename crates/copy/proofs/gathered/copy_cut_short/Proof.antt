@@ -1,3 +1,4 @@
+-- `copy_cut_short` meets its contract. Assumes nothing.
 use borrow.Author.Needs.{needs}
 use Rattle.copy.proofs.gathered.copy_cut_short.Statement.{statement}
 use Rattle.copy.proofs.gathered.copy_cut_short.Tie as tie

@@ -1,3 +1,4 @@
+-- `copy_on` meets its contract. Assumes nothing.
 use borrow.Author.Tests.{lt-ltb, le-ltb}
 use borrow.Author.Needs.{needs}
 use Rattle.copy.proofs.gathered.copy_on.Statement.{statement}

@@ -1,3 +1,4 @@
+-- `copy_through` meets its contract. Assumes nothing.
 use borrow.Author.Needs.{needs}
 use Rattle.copy.proofs.gathered.copy_through.Statement.{statement}
 use Rattle.copy.proofs.gathered.copy_through.Tie as tie

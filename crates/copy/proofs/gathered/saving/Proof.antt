@@ -1,3 +1,4 @@
+-- `saving` meets its contract. Assumes nothing.
 use borrow.Author.Needs.{needs}
 use Rattle.copy.proofs.gathered.saving.Statement.{statement}
 use Rattle.copy.proofs.gathered.saving.Tie as tie

@@ -1,3 +1,4 @@
+-- `store_ends` meets its contract. Assumes nothing.
 use borrow.Author.Needs.{needs}
 use Rattle.copy.proofs.gathered.store_ends.Statement.{statement}
 use Rattle.copy.proofs.gathered.store_ends.Tie as tie

@@ -1,5 +1,6 @@
-use Rattle.rules.specs.GoodForm as form
+-- `many_place` meets its contract. Assumes nothing.
 use borrow.Author.Needs.{needs}
+use Rattle.rules.specs.GoodForm as form
 use Rattle.form.proofs.places.many_place.Statement.{statement}
 use Rattle.form.proofs.places.many_place.Tie as tie
 

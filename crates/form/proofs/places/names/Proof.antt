@@ -1,5 +1,6 @@
-use Rattle.rules.specs.GoodForm as form
+-- `names` meets its contract. Assumes nothing.
 use borrow.Author.Needs.{needs}
+use Rattle.rules.specs.GoodForm as form
 use Rattle.form.proofs.places.names.Statement.{statement}
 use Rattle.form.proofs.places.names.Tie as tie
 

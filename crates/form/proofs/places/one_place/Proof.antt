@@ -1,5 +1,6 @@
-use Rattle.rules.specs.GoodForm as form
+-- `one_place` meets its contract. Assumes nothing.
 use borrow.Author.Needs.{needs}
+use Rattle.rules.specs.GoodForm as form
 use Rattle.form.proofs.places.one_place.Statement.{statement}
 use Rattle.form.proofs.places.one_place.Tie as tie
 

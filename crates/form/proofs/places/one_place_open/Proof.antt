@@ -1,8 +1,9 @@
-use native.Mathlib.Omega.{arith}
+-- `one_place_open` meets its contract: a variable below T has its bit in the mask. Assumes nothing.
 use mathlib.Core.Path.{_∙_, sym}
+use native.Mathlib.Omega.{arith}
+use borrow.Author.Needs.{needs}
 use Rattle.rules.proofs.GoodForm.Held as held
 use Rattle.rules.specs.GoodForm as form
-use borrow.Author.Needs.{needs}
 use Rattle.form.proofs.places.one_place_open.Statement.{statement}
 use Rattle.form.proofs.places.one_place_open.Tie as tie
 
@@ -10,7 +11,9 @@ one-place-requires : tie.Need-one-place-requires
 one-place-requires c κs = search needs
 
 is-open-requires : tie.Need-is-open-requires
-is-open-requires c κs = omega (arith, held.one-in (c .before .before .args .s) (c .before .before .args .x) (sym (c .before .one-place .ensures) ∙ c .if1 .taken))
+is-open-requires c κs =
+    let args = c .before .before .args in
+    omega (arith, held.one-in (args .s) (args .x) (sym (c .before .one-place .ensures) ∙ c .if1 .taken))
 
 returns : tie.Need-returns
 unfolding form.onePlaceOpen

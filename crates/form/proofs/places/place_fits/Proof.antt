@@ -1,3 +1,4 @@
+-- `place_fits` meets its contract. Assumes nothing.
 use borrow.Author.Needs.{needs}
 use Rattle.form.proofs.places.place_fits.Statement.{statement}
 use Rattle.form.proofs.places.place_fits.Tie as tie

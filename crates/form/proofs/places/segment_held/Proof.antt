@@ -1,5 +1,6 @@
-use Rattle.rules.specs.GoodForm as form
+-- `segment_held` meets its contract. Assumes nothing.
 use borrow.Author.Needs.{needs}
+use Rattle.rules.specs.GoodForm as form
 use Rattle.form.proofs.places.segment_held.Statement.{statement}
 use Rattle.form.proofs.places.segment_held.Tie as tie
 

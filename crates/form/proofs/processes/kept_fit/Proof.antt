@@ -1,5 +1,6 @@
-use Rattle.rules.specs.GoodForm as form
+-- `kept_fit` meets its contract. Assumes nothing.
 use borrow.Author.Needs.{needs}
+use Rattle.rules.specs.GoodForm as form
 use Rattle.form.proofs.processes.kept_fit.Statement.{statement}
 use Rattle.form.proofs.processes.kept_fit.Tie as tie
 

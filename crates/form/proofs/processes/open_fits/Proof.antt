@@ -1,10 +1,11 @@
-use lib.Pow.{pow-lt}
-use native.Mathlib.Nat.{mod-eq-of-lt, one-mul}
+-- `open_fits` meets its contract: the bit of T, which the mask lies below, is not shifted out. Assumes nothing.
 use mathlib.Core.Path.{_≡_, ap, _∙_}
 use Prim.Native.Nat.{ℕ, _<_, _*_, _%_, _^_}
+use native.Mathlib.Nat.{mod-eq-of-lt, one-mul}
 use native.Mathlib.Omega.{arith}
-use Rattle.rules.specs.GoodForm as form
+use lib.Pow.{pow-lt}
 use borrow.Author.Needs.{needs}
+use Rattle.rules.specs.GoodForm as form
 use Rattle.form.proofs.processes.open_fits.Statement.{statement}
 use Rattle.form.proofs.processes.open_fits.Tie as tie
 

@@ -1,5 +1,6 @@
-use Rattle.rules.specs.GoodForm as form
+-- `process_fits` meets its contract. Assumes nothing.
 use borrow.Author.Needs.{needs}
+use Rattle.rules.specs.GoodForm as form
 use Rattle.form.proofs.processes.process_fits.Statement.{statement}
 use Rattle.form.proofs.processes.process_fits.Tie as tie
 
@@ -22,8 +23,10 @@ returns : tie.Need-returns
 unfolding form.processFits
 returns c =
     let four = c .before in
-    let two = four .before .before in
-    rw (two .before .place-fits .ensures, two .open-fits .ensures, four .before .kept-fit .ensures, four .values-fit .ensures, c .values-fit2 .ensures)
+    let three = four .before in
+    let two = three .before in
+    let one = two .before in
+    rw (one .place-fits .ensures, two .open-fits .ensures, three .kept-fit .ensures, four .values-fit .ensures, c .values-fit2 .ensures)
 
 pub process-fits-spec : {M : Type 1} → statement M
 process-fits-spec =

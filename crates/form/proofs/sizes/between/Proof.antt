@@ -1,3 +1,4 @@
+-- `between` meets its contract. Assumes nothing.
 use borrow.Author.Tests.{le-leb, lt-leb}
 use Rattle.form.proofs.sizes.between.Statement.{statement}
 use Rattle.form.proofs.sizes.between.Tie as tie

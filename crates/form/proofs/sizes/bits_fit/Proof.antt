@@ -1,3 +1,4 @@
+-- `bits_fit` meets its contract. Assumes nothing.
 use borrow.Author.Tests.{le-leb, lt-leb}
 use Rattle.form.proofs.sizes.bits_fit.Statement.{statement}
 use Rattle.form.proofs.sizes.bits_fit.Tie as tie

@@ -1,3 +1,4 @@
+-- `segments_fit` meets its contract. Assumes nothing.
 use borrow.Author.Needs.{needs}
 use Rattle.form.proofs.sizes.segments_fit.Statement.{statement}
 use Rattle.form.proofs.sizes.segments_fit.Tie as tie

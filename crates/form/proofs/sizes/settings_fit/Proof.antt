@@ -1,5 +1,6 @@
-use Rattle.rules.specs.Sizes as sizes
+-- `settings_fit` meets its contract. Assumes nothing.
 use borrow.Author.Needs.{needs}
+use Rattle.rules.specs.Sizes as sizes
 use Rattle.form.proofs.sizes.settings_fit.Statement.{statement}
 use Rattle.form.proofs.sizes.settings_fit.Tie as tie
 
@@ -17,7 +18,10 @@ segments-fit-requires c κs = search needs
 
 returns : tie.Need-returns
 unfolding sizes.settingsFit
-returns c = rw (c .before .before .before .between .ensures, c .before .before .between2 .ensures, c .before .bits-fit .ensures, c .segments-fit .ensures)
+returns c =
+    let three = c .before in
+    let two = three .before in
+    rw (two .before .between .ensures, two .between2 .ensures, three .bits-fit .ensures, c .segments-fit .ensures)
 
 pub settings-fit-spec : {M : Type 1} → statement M
 settings-fit-spec =

@@ -1,5 +1,6 @@
-use Rattle.rules.specs.GoodForm as form
+-- `in_good_form` meets its contract. Assumes nothing.
 use borrow.Author.Needs.{needs}
+use Rattle.rules.specs.GoodForm as form
 use Rattle.form.proofs.words.in_good_form.Statement.{statement}
 use Rattle.form.proofs.words.in_good_form.Tie as tie
 

@@ -1,6 +1,7 @@
+-- `words_fit` meets its contract. Assumes nothing.
+use borrow.Author.Needs.{needs}
 use Rattle.rules.specs.GoodForm as form
 use Rattle.rules.proofs.GoodForm.Held as held
-use borrow.Author.Needs.{needs}
 use Rattle.form.proofs.words.words_fit.Statement.{statement}
 use Rattle.form.proofs.words.words_fit.Tie as tie
 

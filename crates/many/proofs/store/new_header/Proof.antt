@@ -1,9 +1,11 @@
-use Rattle.rules.proofs.Sizes.Addresses.{number-fits}
-use Rattle.rules.specs.Sizes.{bits}
-use Rattle.word.proofs.Laws.{tag-lt, next-lt}
-use Rattle.word.specs.Word.{tagLimit}
+-- `new_header` meets its contract: the next tag is a tag and the own number a value, so that the word can be made.
+-- Assumes nothing.
 use Prim.Native.Nat.{_<_}
 use borrow.Author.Needs.{needs}
+use Rattle.word.proofs.Laws.{tag-lt, next-lt}
+use Rattle.word.specs.Word.{tagLimit}
+use Rattle.rules.proofs.Sizes.Addresses.{number-fits}
+use Rattle.rules.specs.Sizes.{bits}
 use Rattle.many.proofs.store.new_header.Statement.{statement}
 use Rattle.many.proofs.store.new_header.Tie as tie
 

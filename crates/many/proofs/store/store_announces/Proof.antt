@@ -1,3 +1,4 @@
+-- `store_announces` meets its contract. Assumes nothing.
 use borrow.Author.Tests.{lt-ltb, le-ltb}
 use borrow.Author.Needs.{needs}
 use Rattle.many.proofs.store.store_announces.Statement.{statement}

@@ -1,3 +1,4 @@
+-- `store_reads_header` meets its contract. Assumes nothing.
 use borrow.Author.Tests.{eq-eqb, ne-eqb}
 use borrow.Author.Needs.{needs}
 use Rattle.many.proofs.store.store_reads_header.Statement.{statement}

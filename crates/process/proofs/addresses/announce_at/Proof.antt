@@ -1,6 +1,7 @@
+-- `announce_at` meets its contract: no product or sum is too great, within the words used. Assumes nothing.
 use native.Mathlib.Omega.{arith}
-use Rattle.rules.proofs.Sizes.Addresses.{announce-in, used-most}
 use borrow.Author.Needs.{needs}
+use Rattle.rules.proofs.Sizes.Addresses.{announce-in, used-most}
 use Rattle.process.proofs.addresses.announce_at.Statement.{statement}
 use Rattle.process.proofs.addresses.announce_at.Tie as tie
 

@@ -1,6 +1,7 @@
+-- `header_at` meets its contract: no product or sum is too great, within the words used. Assumes nothing.
 use native.Mathlib.Omega.{arith}
-use Rattle.rules.proofs.Sizes.Addresses.{header-in, used-most}
 use borrow.Author.Needs.{needs}
+use Rattle.rules.proofs.Sizes.Addresses.{header-in, used-most}
 use Rattle.process.proofs.addresses.header_at.Statement.{statement}
 use Rattle.process.proofs.addresses.header_at.Tie as tie
 
