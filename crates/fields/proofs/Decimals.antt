@@ -1,13 +1,14 @@
--- Laws of decimal digits: their count, and how those of a number follow from those of its tenth. Assumes nothing.
+-- Laws of decimal digits: their count, how those of a number follow from those of its tenth, and what
+-- holds of every number for that reason. Assumes nothing.
 use Prim.Native.Nat.{ℕ, zero, suc, _+_, _-_, _*_, _<_, _≤_, _/_, _%_, _^_}
-use mathlib.Core.Path.{_≡_}
+use mathlib.Core.Path.{_≡_, refl}
 use mathlib.Core.Bool.{Bool, true, false, cond}
-use mathlib.Core.List.{[], _∷_, _++_}
+use mathlib.Core.List.{List, [], _∷_, _++_}
 use native.Mathlib.Omega.{arith}
 use native.Mathlib.Nat.{pow-suc}
 use lib.Dec.{ltb}
 use lib.ListN.{length, length-append}
-use borrow.Author.Tests.{le-ltb, lt-ltb}
+use borrow.Author.Tests.{le-ltb, lt-ltb, ltb-true, ltb-false}
 use Rattle.fields.specs.Decimal.{decimalIn}
 
 pub short : (room n : ℕ) → length (decimalIn room n) ≤ room
@@ -40,3 +41,27 @@ tenth (suc (suc room)) n h g =
     let e : suc (suc room) - 1 ≡ suc room = omega arith in
     let k : n < 10 ^ suc room * 10 = rw pow-suc at h in
     (omega arith, rw e (omega arith))
+
+-- what holds of one digit, and of a number where it holds of its tenth, holds of every number that has room
+pub by-digits : (P : ℕ → List ℕ → Type 0) → ((n : ℕ) → n ≤ 9 → P n ((48 + n) ∷ []))
+    → ((n : ℕ) (a : List ℕ) → 9 < n → 0 < length a → P (n / 10) a → P n (a ++ ((48 + n % 10) ∷ [])))
+    → (room n : ℕ) → 0 < room → n < 10 ^ room → P n (decimalIn room n) × (0 < length (decimalIn room n))
+by-digits P one more zero n p h = absurd (let y : ⊥ = omega arith in y)
+by-digits P one more (suc room) n p h =
+    by-test (ltb n 10) refl (λ g.
+    let t = tenth (suc room) n h g in
+    let e : suc room - 1 ≡ room = omega arith in
+    by-digits P one more room (n / 10) (omega arith) (rw e at (t .1)))
+  where
+    by-test : (b : Bool) → ltb n 10 ≡ b
+        → (9 < n → P (n / 10) (decimalIn room (n / 10)) × (0 < length (decimalIn room (n / 10))))
+        → P n (decimalIn (suc room) n) × (0 < length (decimalIn (suc room) n))
+    by-test true e k =
+        let l : n ≤ 9 = omega (arith, ltb-true n 10 e) in
+        rw (decimal-short (suc room) n p l) (one n l, omega arith)
+    by-test false e k =
+        let g : 9 < n = omega (arith, ltb-false n 10 e) in
+        let r = k g in
+        let q : suc room - 1 ≡ room = omega arith in
+        let longer = length-append (decimalIn room (n / 10)) ((48 + n % 10) ∷ []) in
+        rw (decimal-long (suc room) n p g, q) (more n (decimalIn room (n / 10)) g (r .1) (r .0), omega (arith, longer))

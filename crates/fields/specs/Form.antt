@@ -1,7 +1,7 @@
 -- Document 01, refusal 10: a record has other than 7 fields, a quote mark, a CR or LF other than the closing pair, or over
 -- 512 bytes with that pair.
 use Prim.Native.Nat.{ℕ, _+_, _-_}
-use mathlib.Core.Bool.{Bool, true, false, cond, not, _&&_, _||_}
+use mathlib.Core.Bool.{Bool, true, cond, not, _&&_, _||_}
 use mathlib.Core.List.{List, [], _∷_}
 use lib.Dec.{eqb, leb}
 use lib.ListN.{length, getD, take}

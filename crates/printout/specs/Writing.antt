@@ -1,4 +1,5 @@
--- What the writers leave in the lent bytes, and the place after what they wrote.
+-- What a row or the heading leaves in the lent bytes, and the place after it: nothing, and the same place, where there is
+-- too little room.
 use mathlib.Core.Bool.{cond}
 use mathlib.Core.List.{List}
 use Prim.Native.Nat.{ℕ, _+_, _-_}

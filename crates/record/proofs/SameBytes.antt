@@ -1,7 +1,7 @@
--- Laws of words compared byte by byte. Assumes nothing.
+-- Laws of words compared byte by byte: the test holds of equal ones alone, and it may go on past equal bytes. Assumes nothing.
 use Prim.Native.Nat.{ℕ, suc, _+_, _<_, _≤_}
-use mathlib.Core.Path.{_≡_, refl, ap, sym, _∙_}
-use mathlib.Core.Bool.{Bool, true, false, _&&_}
+use mathlib.Core.Path.{_≡_, refl, ap, _∙_}
+use mathlib.Core.Bool.{true, false, _&&_}
 use mathlib.Core.List.{List, [], _∷_}
 use native.Mathlib.Omega.{arith}
 use lib.Dec.{eqb}
@@ -11,7 +11,6 @@ use Rattle.record.specs.Words.{same}
 use Rattle.rules.proofs.Tests.{and-left, and-right, and-both, and-no}
 use Rattle.fields.proofs.Splits.{drop-step}
 
--- the test holds of equal lists, and of no others
 pub same-refl : (s : List ℕ) → same s s ≡ true
 unfolding same
 same-refl [] = refl

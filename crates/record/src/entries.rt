@@ -27,6 +27,7 @@ pub struct ScheduleRead {
     pub values: [u64; 4],
 }
 
+// Values as read, and whether each of them is in form.
 pub struct ValuesRead {
     pub in_form: bool,
     pub values: [u64; 4],

@@ -14,6 +14,7 @@ pub enum KindRead {
     Unknown,
 }
 
+// Whether a field has the bytes of a word and no others.
 fn is_word(bytes: &[u8], word: &[u8]) -> bool
     ensures { λ r. ⌜ r ≡ same (now (bytes .entry)) (now (word .entry)) ⌝ }
 {

@@ -1,4 +1,4 @@
--- `number_at` meets its contract. Assumes nothing.
+-- `number_at` meets its contract: it reads field k. Assumes nothing.
 use mathlib.Core.Path.{ap, _∙_}
 use Rattle.fields.specs.Number.{numberOf}
 use borrow.Author.Needs.{needs}

@@ -1,4 +1,4 @@
--- `zero_leads` meets its contract. Assumes nothing.
+-- `zero_leads` meets its contract: a zero with something after it. Assumes nothing.
 use borrow.Author.Tests.{lt-leb, le-leb}
 use Rattle.fields.specs.Number.{zeroLeads}
 use borrow.Author.Needs.{needs}

@@ -1,4 +1,4 @@
--- `body` meets its contract. Assumes nothing.
+-- `body` meets its contract: the first `body_length` bytes. Assumes nothing.
 use Prim.Native.Nat.{ℕ, _-_}
 use mathlib.Core.Path.{_≡_, ap}
 use native.Mathlib.Omega.{arith}

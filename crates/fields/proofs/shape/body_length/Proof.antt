@@ -1,4 +1,4 @@
--- `body_length` meets its contract. Assumes nothing.
+-- `body_length` meets its contract: two bytes fewer where the pair closes the record. Assumes nothing.
 use mathlib.Core.Path.{sym, _∙_}
 use native.Mathlib.Omega.{arith}
 use Rattle.fields.specs.Form.{bodyLength}

@@ -1,4 +1,4 @@
--- `in_form` meets its contract. Assumes nothing.
+-- `in_form` meets its contract: the length first, then what the body holds. Assumes nothing.
 use borrow.Author.Tests.{lt-leb, le-leb}
 use Rattle.fields.specs.Form.{inForm}
 use borrow.Author.Needs.{needs}

@@ -1,4 +1,4 @@
--- `read_step` meets its contract. Assumes nothing.
+-- `read_step` meets its contract: all fields but the first two are blank. Assumes nothing.
 use mathlib.Core.Path.{sym, _∙_}
 use borrow.Author.Tests.{not-true, not-false}
 use Rattle.record.specs.Entries.{stepOf}
