@@ -9,7 +9,7 @@ use borrow.Author.Tests.{ltb-true}
 use lib.Dec.{ltb}
 use lib.ListN.{length}
 use lib.Seq.{getD-set-same}
-use Rattle.rules.specs.Entry.{openCountRule}
+use Rattle.rules.specs.Entry.{openCountRule, stepped}
 use Rattle.rules.specs.Processes.{openCount, processAt, putProcess, nobody}
 use Rattle.rules.specs.Runs.{State, Event, begin, step, entry, after, processOf}
 use Rattle.rules.specs.Sizes.{settingsFit, wordsUsed}
@@ -20,6 +20,7 @@ use Rattle.rules.specs.declared.Process.{Process}
 use Rattle.rules.specs.declared.Settings.{Settings}
 use Rattle.rules.proofs.GoodForm.Runs.{begin-in-form, step-in-form}
 use Rattle.rules.proofs.Changes.Leaves.{begin-settings, step-settings, step-length}
+use Rattle.rules.proofs.Refusals.OneProcess.{same-board}
 use Rattle.record.specs.declared.Act.{Act}
 use Rattle.record.specs.declared.entries.Entry.{Entry}
 use Rattle.record.specs.declared.entries.Entry.the-variants.{Begin, Step, Refused}
@@ -31,7 +32,7 @@ use Rattle.answers.specs.Moves.{slotIn, slotOf, moveOf, processRow, rowB
 use Rattle.answers.specs.Order.{InOrder}
 use Rattle.answers.specs.Run.{Run, Told, actOf, openAfter, stateOf, eventRow, eventTold, nobodysRow, byEntry}
 use Rattle.answers.specs.declared.Stage.the-variants.{Running}
-use Rattle.answers.proofs.OneProcess.{moved, same-board, all-sized, one-of, none-of, begun, not-begun, took, not-took}
+use Rattle.answers.proofs.OneProcess.{all-sized, one-of, none-of, begun, not-begun, took, not-took}
 
 -- an event leaves a run in order
 pub order-after : (event : Event) (state : State) → InOrder (state .board) (state .words)
@@ -100,7 +101,7 @@ module _ (run : Run) (o : InOrder (run .board) (run .words)) where
 
   -- an event of a process of the board
   mine-told : (event : Event) (m : Moved × List ℕ) → ltb (processOf event) (run .board .settings .n) ≡ true
-      → entry event (stateOf run) ≡ moved (run .board) (processOf event) m
+      → entry event (stateOf run) ≡ stepped (run .board) (processOf event) m
       → eventTold run event ≡ toldAt (run .count + 1) (run .board .settings) (processOf event) (actOf event) (run .board) (processOf event) m
   unfolding eventTold eventRow
   mine-told event m mine e =
@@ -117,7 +118,7 @@ module _ (run : Run) (o : InOrder (run .board) (run .words)) where
 
   -- an event of a process that the board has not
   past-told : (event : Event) (m : Moved × List ℕ) → ltb (processOf event) (run .board .settings .n) ≡ false
-      → entry event (stateOf run) ≡ moved (run .board) 0 m
+      → entry event (stateOf run) ≡ stepped (run .board) 0 m
       → eventTold run event ≡ toldAt (run .count + 1) (run .board .settings) (processOf event) (actOf event) (run .board) 0 m
   unfolding eventTold eventRow
   past-told event m past e =
@@ -134,9 +135,9 @@ module _ (run : Run) (o : InOrder (run .board) (run .words)) where
   -- either way, at the slot
   slot-told : (event : Event) (m : Process → Moved × List ℕ)
       → (ltb (processOf event) (run .board .settings .n) ≡ true
-      → entry event (stateOf run) ≡ moved (run .board) (processOf event) (m (processAt (run .board) (processOf event))))
+      → entry event (stateOf run) ≡ stepped (run .board) (processOf event) (m (processAt (run .board) (processOf event))))
       → (ltb (processOf event) (run .board .settings .n) ≡ false
-      → entry event (stateOf run) ≡ moved (run .board) 0 (m (processAt (run .board) 0)))
+      → entry event (stateOf run) ≡ stepped (run .board) 0 (m (processAt (run .board) 0)))
       → eventTold run event
       ≡ toldAt (run .count + 1) (run .board .settings) (processOf event) (actOf event) (run .board) (slotIn (processOf event) (run .board .settings .n))
       (m (processAt (run .board) (slotIn (processOf event) (run .board .settings .n))))

@@ -22,7 +22,7 @@ and-right false b e = cc
 pub and-both : (a b : Bool) → a ≡ true → b ≡ true → (a && b) ≡ true
 and-both a b p q = rw (p, q)
 
-and-no : (a b : Bool) → b ≡ false → (a && b) ≡ false
+pub and-no : (a b : Bool) → b ≡ false → (a && b) ≡ false
 and-no true b e = e
 and-no false b e = refl
 

@@ -32,7 +32,7 @@ fn keep_byte(line: &mut [u8], held: usize, byte: u8) -> usize
 }
 
 // The bytes of the chunk from `at` on, until the record is closed or the chunk ends.
-pub fn gather(held: usize, cr: bool, chunk: &[u8], at: usize, line: &mut [u8]) -> Found
+pub(crate) fn gather(held: usize, cr: bool, chunk: &[u8], at: usize, line: &mut [u8]) -> Found
     requires { ⌜ (length (now line) ≡ lineLength) × (held ≤ lineLength) × (at ≤ length (now chunk)) ⌝ }
     ensures { λ r. ⌜ record { held = record { line = now (line .exit); held = r .held; cr = r .cr }; left = drop (r .next) (now (chunk .entry)); closed = r .closed } ≡ gatherOf (record { line = now (line .entry); held = held; cr = cr }) (drop at (now (chunk .entry))) ⌝ }
     ensures { λ r. ⌜ (r .held ≤ lineLength) × (r .next ≤ length (now (chunk .entry))) × (length (now (line .exit)) ≡ lineLength) ⌝ }

@@ -6,8 +6,8 @@ use borrow.Author.Needs.{needs}
 use Rattle.rules.specs.declared.Moved.{Moved}
 use Rattle.rules.proofs.Refusals.Refusing.{begin-refused-first}
 use Rattle.rules.proofs.Refusals.Served.{Served, served}
-use Rattle.board.specs.LaidBack.{laidBack}
-use Rattle.board.proofs.Serving.{begin-served}
+use Rattle.calls.specs.OneProcess.{laidBack}
+use Rattle.calls.proofs.Served.{begin-served}
 use Rattle.board.proofs.begin.Statement.{statement}
 use Rattle.board.proofs.begin.Tie as tie
 

@@ -10,8 +10,7 @@ use Rattle.rules.specs.declared.Call.{Call}
 use Rattle.rules.specs.declared.Check.{Check}
 use Rattle.rules.specs.declared.Check.the-variants.{Fine, Refused}
 use Rattle.rules.proofs.Refusals.OneProcess.{same-board}
-use Rattle.calls.specs.OneProcess.{beginProcessBy, beginProcessRule}
-use Rattle.board.specs.LaidBack.{laidBack}
+use Rattle.calls.specs.OneProcess.{beginProcessBy, beginProcessRule, laidBack}
 
 module _ (board : Board) (me : ℕ) (call : Call) (values words : List ℕ) where
   pub begin-served : processCheck board me words ≡ Fine
