@@ -1,4 +1,4 @@
--- The types of src/lib.rt with their cases, and the refusals of `word`, for the rule files to name by one line.
+-- The types of src/lib.rt with their cases, and the refusals of `word`, for every file to name by one line.
 pub use Rattle.word.specs.declared.Refusal.{Refusal, the-variants.SettingOutsideSizes, the-variants.MemoryTooShort, the-variants.NotInGoodForm, the-variants.NoSuchProcess, the-variants.NoSuchVariable, the-variants.CallInProgress, the-variants.NoOpenSequence, the-variants.ValueTooGreat, the-variants.ProcessIdle}
 pub use Rattle.rules.specs.declared.Kind.{Kind, the-variants.One, the-variants.Many}
 pub use Rattle.rules.specs.declared.Settings.{Settings}

@@ -1,6 +1,6 @@
 -- What document 01's slips that look right get wrong and P1 to P10 do not show, by computation: a witness is the process
--- of the header just read; a store of kind many that answers no closes its sequence, and moves the tag; a set-up clears the
--- words used. Assumes nothing.
+-- of the header just read; a store of kind many that answers no closes its sequence; one of the value already there moves the
+-- tag; a set-up clears the words used. Assumes nothing.
 use mathlib.Core.Path.{_≡_, refl}
 use mathlib.Core.List.{[], _∷_}
 use Rattle.rules.specs.Entry.{setUpRule}

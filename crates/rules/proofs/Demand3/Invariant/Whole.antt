@@ -1,4 +1,4 @@
--- The whole machine: begins and steps in any order. Assumes nothing.
+-- The invariant of the whole machine: a fresh one has it, and every begin and step keeps it. Assumes nothing.
 use mathlib.Core.Path.{_≡_, refl, sym}
 use mathlib.Core.Logic.{_≢_}
 use mathlib.Core.Bool.{Bool, true, false, cond}
@@ -55,10 +55,11 @@ begun st p x pl =
       procs = change (st .procs) p (record { at = x; place = pl; sequences = st .procs p .sequences });
     }
 
--- the invariant
-abbrev pub view : Proc → ℕ → Place
+-- where a process stands at a variable: idle, but at that of its call
+abbrev view : Proc → ℕ → Place
 view r x = cond (eqb x (r .at)) (r .place) idle
 
+-- each variable's invariant, and each process's part at each variable
 pub record Inv (k : Kind) (W : ℕ) (st : State) : Type 0 where
   pub var : (x : ℕ) → VarInvK k W (st .vars x)
   pub pair : (p x : ℕ) → PairK k W p (st .vars x) (st .rows p) (st .procs p .sequences x) (view (st .procs p) x)
@@ -78,11 +79,7 @@ module _ (k : Kind) (W : ℕ) (st : State) (I : Inv k W st) (p x : ℕ) (e : st 
       (view (st .procs r) x) (I .pair r x))
       (λ y m. I .pair r y)
 
-  applied : Inv k W (record {
-    vars = change (st .vars) x (o .var);
-    rows = change (st .rows) p (o .row);
-    procs = change (st .procs) p (record { at = x; place = o .place; sequences = change (st .procs p .sequences) x (o .sequence) });
-  })
+  applied : Inv k W (apply st p x o)
   applied = record {
     var = change-all (λ y v. VarInvK k W v) (st .vars) x (o .var) (F .inv) (λ y n. I .var y);
     pair = change-both (λ r row c. (y : ℕ) → PairK k W r (change (st .vars) x (o .var) y) row (c .sequences y) (view c y))
@@ -105,21 +102,22 @@ cond-same false a = refl
 
 pub begin-kept : (k : Kind) (W : ℕ) (st : State) → Inv k W st → (p : ℕ) → st .procs p .place ≡ idle → (x : ℕ) (c : Call) (new : ℕ → ℕ) →
     Has c (st .procs p .sequences x) → Inv k W (begun st p x (firstOf c new))
-begin-kept k W st I p e x c new h = record {
-  var = change-all (λ y v. VarInvK k W v) (st .vars) x (anew p (st .vars x)) (anew-inv k W p (st .vars x) (I .var x)) (λ y n. I .var y);
-  pair = change-all (λ r k′. (y : ℕ) → PairK k W r (change (st .vars) x (anew p (st .vars x)) y) (st .rows r) (k′ .sequences y)
-      (view k′ y)) (st .procs) p
-      (record { at = x; place = firstOf c new; sequences = st .procs p .sequences })
-      (change-all (λ y v. PairK k W p v (st .rows p) (st .procs p .sequences y) (cond (eqb y x) (firstOf c new) idle)) (st .vars) x
-      (anew p (st .vars x))
-      (rw (eq-eqb x x refl) (beginK k W p (anew p (st .vars x)) (st .rows p) (st .procs p .sequences x)
-      (anew-idle k W p (st .vars x) (st .rows p) (st .procs p .sequences x) (was x)) c new h))
-      (λ y n. rw (ne-eqb y x n) (was y)))
-      (λ r n. change-all (λ y v. PairK k W r v (st .rows r) (st .procs r .sequences y) (view (st .procs r) y)) (st .vars) x (anew p (st .vars x))
-      (stableK k W r (st .vars x) (anew p (st .vars x)) (I .var x) (anew-inv k W p (st .vars x) (I .var x))
-      (anew-rely k W p (st .vars x) r n) (st .procs r .sequences x) (st .rows r) (view (st .procs r) x) (I .pair r x))
-      (λ y m. I .pair r y));
-}
+begin-kept k W st I p e x c new h =
+    let v : Var = anew p (st .vars x) in
+    let inv : VarInvK k W v = anew-inv k W p (st .vars x) (I .var x) in
+    record {
+      var = change-all (λ y u. VarInvK k W u) (st .vars) x v inv (λ y n. I .var y);
+      pair = change-all (λ r q. (y : ℕ) → PairK k W r (change (st .vars) x v y) (st .rows r) (q .sequences y) (view q y)) (st .procs) p
+          (record { at = x; place = firstOf c new; sequences = st .procs p .sequences })
+          (change-all (λ y u. PairK k W p u (st .rows p) (st .procs p .sequences y) (cond (eqb y x) (firstOf c new) idle)) (st .vars) x v
+          (rw (eq-eqb x x refl) (beginK k W p v (st .rows p) (st .procs p .sequences x)
+          (anew-idle k W p (st .vars x) (st .rows p) (st .procs p .sequences x) (was x)) c new h))
+          (λ y n. rw (ne-eqb y x n) (was y)))
+          (λ r n. change-all (λ y u. PairK k W r u (st .rows r) (st .procs r .sequences y) (view (st .procs r) y)) (st .vars) x v
+          (stableK k W r (st .vars x) v (I .var x) inv (anew-rely k W p (st .vars x) r n) (st .procs r .sequences x) (st .rows r)
+          (view (st .procs r) x) (I .pair r x))
+          (λ y m. I .pair r y));
+    }
   where
     was : (y : ℕ) → PairK k W p (st .vars y) (st .rows p) (st .procs p .sequences y) idle
     was y = rw (e, cond-same (eqb y (st .procs p .at)) idle) at (I .pair p y)

@@ -1,4 +1,4 @@
--- Kind `many`: a step of the board is the machine's. Assumes nothing.
+-- Kind `many`: at each place a step of the board is the machine's, as long as the sequence is short. Assumes nothing.
 use mathlib.Core.Path.{_≡_, refl, ap, sym, _∙_, subst}
 use mathlib.Core.Bool.{Bool, true, false}
 use mathlib.Core.List.{List}

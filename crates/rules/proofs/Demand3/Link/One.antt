@@ -1,4 +1,4 @@
--- Kind `one`: a step of the board is the machine's. Assumes nothing.
+-- Kind `one`: at each place a step of the board is the machine's, as long as the sequence is short. Assumes nothing.
 use mathlib.Core.Path.{_≡_, refl, ap, sym, _∙_}
 use mathlib.Core.Bool.{true, false}
 use mathlib.Core.List.{List, [], _∷_}
