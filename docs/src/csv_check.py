@@ -2,7 +2,8 @@
 """Read schedules and printouts as a spreadsheet does: csv_check.py PROGRAM
 
 Each schedule of examples/ is read by Python's csv module, written again by it with CR LF and no quotes, and run by the
-program; the printout must have the heading's nine columns in every row and be the stored one.
+program; the printout must have the heading's nine columns in every row and be the stored one. What a spreadsheet saved,
+examples/from-a-sheet, must be made the example of the same name by from-sheet.
 """
 import csv
 import io
@@ -33,11 +34,19 @@ def faults(program, path):
         yield "a row has other than nine columns"
 
 
+def sheet_faults(path):
+    made = subprocess.run(["./from-sheet"], input=path.read_bytes(), stdout=subprocess.PIPE, check=True).stdout
+    if made != (path.parent.parent / path.name).read_bytes():
+        yield "from-sheet does not make the example of it"
+
+
 def main():
     program = str(pathlib.Path(sys.argv[1]).resolve())
     schedules = [p for p in sorted(pathlib.Path("examples").glob("*.csv")) if not p.name.endswith(".printout.csv")]
     found = [f"{path}: {fault}" for path in schedules for fault in faults(program, path)]
-    print("\n".join(found) if found else f"{len(schedules)} schedules read, run and read back by the csv module")
+    sheets = sorted(pathlib.Path("examples/from-a-sheet").glob("*.csv"))
+    found += [f"{path}: {fault}" for path in sheets for fault in sheet_faults(path)]
+    print("\n".join(found) if found else f"{len(schedules)} schedules read, run and read back by the csv module, {len(sheets)} made of a spreadsheet's")
     sys.exit(1 if found else 0)
 
 

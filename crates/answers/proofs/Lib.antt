@@ -1,5 +1,7 @@
+-- The listing's printout (Listing); that on a board in order an event is what it does to one process (OneProcess, OpenAfter), so
+-- that what the code answers is what the record tells (EntryTold, Answering).
 pub mod Listing
 pub mod OneProcess
-pub mod EntryTold
 pub mod OpenAfter
+pub mod EntryTold
 pub mod Answering

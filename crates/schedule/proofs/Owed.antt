@@ -8,7 +8,7 @@ use native.Mathlib.Omega.{arith}
 use borrow.Author.Tests.{ltb-false}
 use lib.Dec.{ltb}
 use lib.ListN.{length, take, length-append}
-use lib.Seq.{sets-eq, take-at, length-take-le}
+use lib.Seq.{sets, sets-eq, take-at, length-take-le}
 use Rattle.word.specs.declared.Refusal.the-variants.{TooManyRecords}
 use Rattle.rules.specs.Entry.{setUpRule}
 use Rattle.rules.specs.declared.Board.{Board}
@@ -71,18 +71,20 @@ pub told-short : (run : Run) (bytes : List ℕ) → length (recordTold run bytes
 unfolding recordTold
 told-short run bytes = short-told (run .stage) run bytes
 
--- bytes put after what the output holds
+-- bytes put after the first `len`
+pub put-after : (out bytes : List ℕ) (len : ℕ) → len + length bytes ≤ length out
+    → take (len + length bytes) (sets out len bytes) ≡ take len out ++ bytes
+put-after out bytes len inside =
+    let seam : length (take len out ++ bytes) ≡ len + length bytes =
+    length-append (take len out) bytes ∙ ap (λ (n : ℕ). n + length bytes) (length-take-le len out (omega arith)) in
+    ap (take (len + length bytes)) (sets-eq bytes out len inside) ∙ take-at (take len out ++ bytes) _ _ seam
+
 pub output-more : (f : Feeding) (told : Told) → isFull f ≡ false → length (told .printed) ≤ longestRow
     → output (telling f told) ≡ output f ++ told .printed
 unfolding isFull telling
 output-more f told room short =
     let l : longestRow ≤ length (f .out) - f .len = ltb-false _ _ room in
-    let inside : f .len + length (told .printed) ≤ length (f .out) = omega arith in
-    let seam : length (take (f .len) (f .out) ++ told .printed) ≡ f .len + length (told .printed) =
-    length-append (take (f .len) (f .out)) (told .printed)
-    ∙ ap (λ (n : ℕ). n + length (told .printed)) (length-take-le (f .len) (f .out) (omega arith)) in
-    ap (take (f .len + length (told .printed))) (sets-eq (told .printed) (f .out) (f .len) inside)
-    ∙ take-at (take (f .len) (f .out) ++ told .printed) _ _ seam
+    put-after (f .out) (told .printed) (f .len) (omega arith)
 
 -- with `written` written out, all is `total` of the bytes still to come
 pub record Owes (written : List ℕ) (f : Feeding) (total : List ℕ → List ℕ) : Type 0 where

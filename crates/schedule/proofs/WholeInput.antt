@@ -5,8 +5,7 @@ use mathlib.Core.Bool.{Bool, true, false, cond}
 use mathlib.Core.List.{List, [], _∷_, _++_, append-assoc, append-nil}
 use native.Mathlib.Omega.{arith}
 use borrow.Author.Tests.{eq-eqb, ne-eqb}
-use lib.ListN.{length, take, drop}
-use lib.Seq.{sets-eq, take-at}
+use lib.ListN.{length, take}
 use Rattle.printout.specs.Row.{heading}
 use Rattle.printout.specs.Writing.{longestRow}
 use Rattle.schedule.specs.Feeding.{Feeding, finishIn, finishOf, takeByte, isFull, sameStage, feedOf}
@@ -15,7 +14,7 @@ use Rattle.answers.specs.Records.{recordsFrom}
 use Rattle.answers.specs.Run.{Told, beginningRun, recordTold, rowsOf, printoutOf}
 use Rattle.schedule.specs.WholeInput.{Action, offer, flush, Caller, output, started, act, acts, Whole}
 use Rattle.schedule.proofs.Kept.{Keeps, keeps-nothing, told-kept}
-use Rattle.schedule.proofs.Owed.{told-short, output-more, Owes, over-rows, byte-owes}
+use Rattle.schedule.proofs.Owed.{told-short, put-after, output-more, Owes, over-rows, byte-owes}
 
 -- the bytes that were taken, by how many are left
 pub left-most : (f : Feeding) (bytes : List ℕ) → length (feedOf f bytes .1) ≤ length bytes
@@ -98,7 +97,7 @@ start-stands line out long room =
       part = [];
       kept = keeps-nothing line long;
       owed = λ rest. ap (λ (o : List ℕ). o ++ rowsOf beginningRun (recordsFrom [] rest))
-          (ap (take (length heading)) (sets-eq heading out 0 fits) ∙ take-at heading (drop (0 + length heading) out) (length heading) refl);
+          (put-after out heading 0 fits);
     }
 
 -- the end of the input

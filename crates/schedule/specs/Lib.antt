@@ -1,3 +1,5 @@
+-- A record gathered byte by byte (Gathering), bytes fed to a run (Feeding), and the whole input in any pieces (WholeInput); what the
+-- contracts inside the crate say (Ready, Telling).
 pub mod Gathering
 pub mod Feeding
 pub mod WholeInput

@@ -9,11 +9,11 @@ ghost use Rattle.schedule.specs.Feeding.{Feeding, feeding, sessionOf, fe
 ghost use Rattle.schedule.specs.Ready.{Ready};
 ghost use Rattle.answers.specs.Run.{beginningRun};
 
-mod chunks;
-mod ends;
-mod gather;
-mod setup;
-mod take;
+mod chunks; // chunks.rt: bytes of a chunk, as far as there is room for rows
+mod ends; // ends.rt: the last row of a run
+mod gather; // gather.rt: a record gathered in the lent line
+mod setup; // setup.rt: the set-up record
+mod take; // take.rt: one whole record
 
 pub use answers::Stage;
 use board::blank_board;
