@@ -95,10 +95,9 @@ pub as-running : (session : Session) (line words out : List ℕ) (len : ℕ) (by
 as-running session line words out len bytes e =
     ap (λ (s : Stage). feedOf (feeding (record { stage = s; board = session .board; count = session .count; held = session .held; cr = session .cr }) line words out len) bytes) (sym e)
 
-pub running-ready : (session : Session) (board : Board) (count held : ℕ) (cr : Bool) (line words : List ℕ) → session ≡ running board count held cr
-    → InOrder board words → held ≤ lineLength → length line ≡ lineLength → Ready session line words
-running-ready session board count held cr line words e o h l =
-    subst (λ (s : Session). Ready s line words) (sym e) (record { order = λ q. o; held = h; long = l })
+pub running-ready : (board : Board) (count held : ℕ) (cr : Bool) (line words : List ℕ)
+    → InOrder board words → held ≤ lineLength → length line ≡ lineLength → Ready (running board count held cr) line words
+running-ready board count held cr line words o h l = record { order = λ q. o; held = h; long = l }
 
 never : {A : Type 0} (s t : Stage) → s ≡ Over → s ≡ Running → A
 never s t p q = let z : _≡_ {A = ℕ} 0 1 = cc in absurd (omega arith)

@@ -45,6 +45,18 @@ fn running(board: Board, count: u64, held: usize, cr: bool) -> Session
     }
 }
 
+// The same after some bytes.
+fn fed_running(board: Board, count: u64, held: usize, cr: bool, next: usize, len: usize) -> Fed
+    ensures { λ r. ⌜ r ≡ record { session = record { stage = Running; board = board; count = count; held = held; cr = cr }; next = next; len = len } ⌝ }
+{
+    let session = running(board, count, held, cr);
+    Fed {
+        session: session,
+        next: next,
+        len: len,
+    }
+}
+
 // Up to the end of the set-up record.
 pub(crate) fn feed_set_up(
     session: Session,
@@ -107,11 +119,7 @@ pub(crate) fn feed_running(
     let mut size = len;
     while next < chunk.len() {
         if is_full(out.len(), size) {
-            return Fed {
-                session: running(board, count, held, cr),
-                next: next,
-                len: size,
-            };
+            return fed_running(board, count, held, cr, next, size);
         }
         let found = gather(held, cr, chunk, next, line);
         held = found.held;
@@ -141,9 +149,5 @@ pub(crate) fn feed_running(
             cr = false;
         }
     }
-    Fed {
-        session: running(board, count, held, cr),
-        next: next,
-        len: size,
-    }
+    fed_running(board, count, held, cr, next, size)
 }

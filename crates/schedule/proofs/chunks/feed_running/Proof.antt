@@ -10,11 +10,10 @@ use Rattle.rules.specs.declared.Settings.{Settings}
 use Rattle.schedule.specs.Feeding.{feeding, feedOf}
 use Rattle.schedule.specs.Gathering.{lineLength}
 use Rattle.answers.specs.Order.{InOrder}
-use Rattle.schedule.specs.declared.Session.{Session}
 use Rattle.schedule.proofs.Feeding.{feed-full}
 use Rattle.answers.proofs.OneProcess.{all-sized}
 use Rattle.schedule.proofs.Progress.{progress, used-up, open-on, is-full, room, as-running, running-ready, ended-ready}
-use Rattle.schedule.proofs.RunningOn.{running, Served, served, too-many, goes-on}
+use Rattle.schedule.proofs.RunningOn.{running, fedRunning, ensured, Served, served, too-many, goes-on}
 use Rattle.schedule.proofs.chunks.feed_running.Statement.{statement}
 use Rattle.schedule.proofs.chunks.feed_running.Tie as tie
 
@@ -35,8 +34,8 @@ loop-holds c =
 is-full-requires : tie.Need-is-full-requires Inv-loop μ-loop
 is-full-requires c κs = omega arith
 
-running-requires : tie.Need-running-requires Inv-loop μ-loop
-running-requires c κs = omega arith
+fed-running-requires : tie.Need-fed-running-requires Inv-loop μ-loop
+fed-running-requires c κs = omega arith
 
 same-length : tie.Need-same-length Inv-loop μ-loop
 same-length c = omega arith
@@ -54,10 +53,11 @@ returns c =
     let loop = at-loop .loop in
     let a = start .args in
     let whole = loop .inv .8 ∙ as-running (a .session) (a .line .now) (a .mem .now) (a .out .now) (a .len) (drop (a .at) (a .chunk .now)) (start .pre .0) in
-    let f = feeding (running (loop .board) (loop .count) (loop .held) (loop .cr)) (loop .line) (loop .mem) (loop .out) (loop .size) in (
-      ap (λ (s : Session). (feeding s (loop .line) (loop .mem) (loop .out) (loop .size), drop (loop .next) (a .chunk .now))) (c .running .ensures)
-          ∙ sym (feed-full f (drop (loop .next) (a .chunk .now)) (is-full f _ _ (c .before .before .is-full .ensures) (c .before .if1 .taken))) ∙ whole,
-      (running-ready _ _ _ _ _ _ _ (c .running .ensures) (loop .inv .1) (loop .inv .3) (loop .inv .4), loop .inv .0),
+    let f = feeding (running (loop .board) (loop .count) (loop .held) (loop .cr)) (loop .line) (loop .mem) (loop .out) (loop .size) in
+    ensured _ (fedRunning (loop .board) (loop .count) (loop .held) (loop .cr) (loop .next) (loop .size)) (a .chunk .now) (loop .line) (loop .mem) (loop .out) _
+    (c .fed-running .ensures) (
+      sym (feed-full f (drop (loop .next) (a .chunk .now)) (is-full f _ _ (c .before .before .is-full .ensures) (c .before .if1 .taken))) ∙ whole,
+      (running-ready (loop .board) (loop .count) (loop .held) (loop .cr) (loop .line) (loop .mem) (loop .inv .1) (loop .inv .3) (loop .inv .4), loop .inv .0),
     )
 
 gather-requires : tie.Need-gather-requires Inv-loop μ-loop
@@ -65,8 +65,8 @@ gather-requires c κs =
     let at-loop = c .before .before .before .before in
     (at-loop .loop .inv .4, at-loop .loop .inv .3, at-loop .loop .inv .0)
 
-running-requires-2 : tie.Need-running-requires-2 Inv-loop μ-loop
-running-requires-2 c κs = omega arith
+running-requires : tie.Need-running-requires Inv-loop μ-loop
+running-requires c κs = omega arith
 
 end-with-too-many-requires : tie.Need-end-with-too-many-requires Inv-loop μ-loop
 end-with-too-many-requires c κs =
@@ -92,8 +92,8 @@ same-length-6 c =
 
 returns-2 : tie.Need-returns-2 Inv-loop μ-loop
 returns-2 c =
-    let at-running2 = c .before .before .before .before .before in
-    let at-if3 = at-running2 .before in
+    let at-running = c .before .before .before .before .before in
+    let at-if3 = at-running .before in
     let at-if2 = at-if3 .before in
     let at-gather = at-if2 .before .before .before in
     let at-if1 = at-gather .before .before in
@@ -107,7 +107,7 @@ returns-2 c =
     let ended = c .before .before .before .end-with-too-many .ensures in (
       too-many (loop .board) (loop .count) (loop .held) (loop .cr) (loop .line) (loop .mem) (loop .out) (loop .size) (drop (loop .next) (a .chunk .now)) _ _ _
           (room _ _ (at-is-full .is-full .ensures) (at-if1 .if1 .left)) (gathered .0) _ _ _ _ (at-if2 .if2 .taken) (at-if3 .if3 .taken)
-          (at-running2 .running2 .ensures) ended ∙ whole,
+          (at-running .running .ensures) ended ∙ whole,
       (ended-ready _ _ _ _ _ _ _ _ _ ended (gathered .1 .2), gathered .1 .1),
     )
 
@@ -246,8 +246,8 @@ loop-again-2 c =
           (room _ _ (at-is-full .is-full .ensures) (at-if1 .if1 .left)) (gathered .0) (c .if2 .left) ∙ loop .inv .8,
     )
 
-running-requires-3 : tie.Need-running-requires-3 Inv-loop μ-loop
-running-requires-3 c κs = omega arith
+fed-running-requires-2 : tie.Need-fed-running-requires-2 Inv-loop μ-loop
+fed-running-requires-2 c κs = omega arith
 
 same-length-7 : tie.Need-same-length-7 Inv-loop μ-loop
 same-length-7 c = omega arith
@@ -264,10 +264,11 @@ returns-3 c =
     let loop = c .before .before .loop in
     let a = start .args in
     let whole = loop .inv .8 ∙ as-running (a .session) (a .line .now) (a .mem .now) (a .out .now) (a .len) (drop (a .at) (a .chunk .now)) (start .pre .0) in
-    let f = feeding (running (loop .board) (loop .count) (loop .held) (loop .cr)) (loop .line) (loop .mem) (loop .out) (loop .size) in (
-      ap (λ (s : Session). (feeding s (loop .line) (loop .mem) (loop .out) (loop .size), drop (loop .next) (a .chunk .now))) (c .running3 .ensures)
-          ∙ used-up f (a .chunk .now) (loop .next) (c .before .loop-test .left) ∙ whole,
-      (running-ready _ _ _ _ _ _ _ (c .running3 .ensures) (loop .inv .1) (loop .inv .3) (loop .inv .4), loop .inv .0),
+    let f = feeding (running (loop .board) (loop .count) (loop .held) (loop .cr)) (loop .line) (loop .mem) (loop .out) (loop .size) in
+    ensured _ (fedRunning (loop .board) (loop .count) (loop .held) (loop .cr) (loop .next) (loop .size)) (a .chunk .now) (loop .line) (loop .mem) (loop .out) _
+    (c .fed-running2 .ensures) (
+      used-up f (a .chunk .now) (loop .next) (c .before .loop-test .left) ∙ whole,
+      (running-ready (loop .board) (loop .count) (loop .held) (loop .cr) (loop .line) (loop .mem) (loop .inv .1) (loop .inv .3) (loop .inv .4), loop .inv .0),
     )
 
 pub feed-running-spec : {M : Type 1} → statement M
@@ -278,13 +279,13 @@ feed-running-spec =
     μ-loop
     loop-holds
     is-full-requires
-    running-requires
+    fed-running-requires
     same-length
     same-length-2
     same-length-3
     returns
     gather-requires
-    running-requires-2
+    running-requires
     end-with-too-many-requires
     same-length-4
     same-length-5
@@ -305,7 +306,7 @@ feed-running-spec =
     loop-again
     loop-less-2
     loop-again-2
-    running-requires-3
+    fed-running-requires-2
     same-length-7
     same-length-8
     same-length-9
