@@ -1,16 +1,15 @@
 #!/usr/bin/env python3
 """Print docs/EDITS.md: each must-fail edit, what it shows, and the fact at which the prover refuses it.
 
-Run at the repository's root after a gate, which leaves the prover's answers under target/must-fail (FOLDER, if they
-stand elsewhere too):
-    docs/src/edits_table.py [FOLDER ..] > docs/EDITS.md
+Run at the repository's root after the gate, which leaves the prover's answers under target/must-fail, and then
+docs/src/more_edits.sh, which leaves them under target/more-edits:
+    docs/src/edits_table.py > docs/EDITS.md
 """
 import pathlib
 import re
-import sys
 
 FIRST_ERROR = re.compile(r"^\S*?/must-fail/[^/]+/[^/]+/(\S+?):(\d+):\d+: error: `([^`]+)`", re.M)
-NOT_PROVED = re.compile(r"^fn (\S+): (?:not proved|no proof)", re.M)
+NOT_FOUND = re.compile(r"^fn (\S+): no proof: [^\n]*`search` does not close `([^`]+)`", re.M)
 
 
 def shown(edit):
@@ -20,16 +19,20 @@ def shown(edit):
 
 def refused_at(log):
     text = log.read_text(encoding="utf-8")
+    # A function without a proof file has its proof searched for; the first error may then be a caller's.
+    not_found = NOT_FOUND.search(text)
+    if not_found:
+        function, need = not_found.groups()
+        return f"`{need}` of `{function}`, for which no proof is found"
     first = FIRST_ERROR.search(text)
     if first:
         place, line, name = first.groups()
         return f"`{name}`, {place}:{line}"
-    unproved = NOT_PROVED.search(text)
-    return f"no proof of `{unproved.group(1)}` is found" if unproved else "?"
+    return "?"
 
 
 def answer_to(crate, edit):
-    for folder in ["target/must-fail", *sys.argv[1:]]:
+    for folder in ["target/must-fail", "target/more-edits"]:
         log = pathlib.Path(folder) / crate / edit.stem / ".log"
         if log.exists():
             return refused_at(log)
