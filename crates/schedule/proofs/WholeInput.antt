@@ -1,6 +1,6 @@
 -- However the input is cut and the output written out, what is written is the printout of what was read. Assumes nothing.
 use Prim.Native.Nat.{ℕ, suc, _+_, _-_, _≤_}
-use mathlib.Core.Path.{_≡_, refl, sym, ap, _∙_}
+use mathlib.Core.Path.{_≡_, refl, sym, ap, _∙_, subst}
 use mathlib.Core.Bool.{Bool, true, false, cond}
 use mathlib.Core.List.{List, [], _∷_, _++_, append-assoc, append-nil}
 use native.Mathlib.Omega.{arith}
@@ -122,14 +122,20 @@ module _ (written : List ℕ) (total : List ℕ → List ℕ) (f : Feeding) (roo
       ∙ ap (λ (records : List (List ℕ)). written ++ (output f ++ rowsOf (f .run) records)) (sym (last-record x part))
       ∙ owed
 
+input-ends : (line out : List ℕ) → length line ≡ lineLength → longestRow ≤ length out → (actions : List Action)
+    → isFull (acts (started line out) actions .feeding) ≡ false
+    → acts (started line out) actions .written ++ output (finishOf (acts (started line out) actions .feeding))
+    ≡ printoutOf (acts (started line out) actions .read)
+input-ends line out long room actions free =
+    let o = acts-stand (started line out) actions (start-stands line out long room) in
+    let c = acts (started line out) actions in
+    finish-owes (c .written) (λ rest. printoutOf (c .read ++ rest)) (c .feeding) free (o .part) (o .kept) (o .owed [])
+    ∙ ap printoutOf (append-nil (c .read))
+
 pub whole-input : Whole
 whole-input =
     record {
-      ends = λ line out long room actions free.
-          let o = acts-stand (started line out) actions (start-stands line out long room) in
-          let c = acts (started line out) actions in
-          finish-owes (c .written) (λ rest. printoutOf (c .read ++ rest)) (c .feeding) free (o .part) (o .kept) (o .owed [])
-          ∙ ap printoutOf (append-nil (c .read));
+      ends = input-ends;
       over = λ line out long room actions over rest.
           let o = acts-stand (started line out) actions (start-stands line out long room) in
           let c = acts (started line out) actions in
@@ -137,4 +143,9 @@ whole-input =
           ap (λ (l : List ℕ). c .written ++ l) (sym (append-nil (output f))
           ∙ ap (λ (l : List ℕ). output f ++ l) (sym (over-rows (f .run) over (recordsFrom (o .part) rest))))
           ∙ o .owed rest;
+      taken = λ line out long room bytes f t free.
+          let c = acts (started line out) (t .actions) in
+          sym (ap (λ (x : Feeding). c .written ++ output (finishOf x)) (t .feeding))
+          ∙ input-ends line out long room (t .actions) (subst (λ (x : Feeding). isFull x ≡ false) (sym (t .feeding)) free)
+          ∙ ap printoutOf (t .read);
     }

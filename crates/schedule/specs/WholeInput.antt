@@ -86,3 +86,7 @@ pub record Whole : Type 1 where
       → acts (started line out) actions .feeding .run .stage ≡ Over → (rest : List ℕ)
       → acts (started line out) actions .written ++ output (acts (started line out) actions .feeding)
       ≡ printoutOf (acts (started line out) actions .read ++ rest)
+  -- where bytes were taken so and the input ends, with room for a last row
+  pub taken : (line out : List ℕ) → length line ≡ lineLength → longestRow ≤ length out → (bytes : List ℕ) (f : Feeding)
+      → (t : Takes (started line out .feeding) bytes f) → isFull f ≡ false
+      → acts (started line out) (t .actions) .written ++ output (finishOf f) ≡ printoutOf bytes

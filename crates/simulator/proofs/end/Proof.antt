@@ -1,5 +1,4 @@
 -- `end` meets its contract: with room made, the last record's row is written. Assumes nothing.
-use native.Mathlib.Omega.{arith}
 use mathlib.Core.Path.{ap, _∙_}
 use Prim.Native.Nat.{ℕ}
 use borrow.Author.Needs.{needs}
