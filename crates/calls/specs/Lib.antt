@@ -1,1 +1,2 @@
+-- What a begin makes of one process (OneProcess).
 pub mod OneProcess

@@ -1,3 +1,4 @@
+-- A record: its bytes (Bytes), its form (Form), its fields (Fields, Blanks), and the numbers in them (Number, Decimal).
 pub mod Bytes
 pub mod Form
 pub mod Fields

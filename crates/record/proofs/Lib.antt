@@ -1,3 +1,4 @@
+-- Words compared byte by byte (SameBytes), the values of a store (Values), and records computed (Cases).
 pub mod SameBytes
 pub mod Values
 pub mod Cases

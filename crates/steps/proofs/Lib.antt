@@ -1,1 +1,2 @@
+-- What good form gives the code at each place (Places).
 pub mod Places

@@ -1,6 +1,6 @@
+-- `feed` meets its contract: by the room in the output and the stage. Assumes nothing.
 use mathlib.Core.List.{List}
 use Prim.Native.Nat.{ℕ}
--- `feed` meets its contract: by the room in the output and the stage. Assumes nothing.
 use native.Mathlib.Omega.{arith}
 use mathlib.Core.Path.{sym, ap, _∙_}
 use lib.ListN.{drop}

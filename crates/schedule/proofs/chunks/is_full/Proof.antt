@@ -1,7 +1,7 @@
+-- `is_full` meets its contract: by its test. Assumes nothing.
 use native.Mathlib.Omega.{arith}
 use mathlib.Core.Path.{sym}
 use Prim.Native.Nat.{_-_}
--- `is_full` meets its contract: by its test. Assumes nothing.
 use borrow.Author.Tests.{lt-ltb}
 use borrow.Author.Needs.{needs}
 use Rattle.schedule.proofs.chunks.is_full.Statement.{statement}

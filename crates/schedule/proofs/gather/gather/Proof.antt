@@ -1,3 +1,4 @@
+-- `gather` meets its contract. The invariant: gathering on from here gives what gathering all gives. Assumes nothing.
 use native.Mathlib.Omega.{arith}
 use Prim.Native.Nat.{_≤_, _<_, _+_, _-_}
 use mathlib.Core.Bool.{true}
