@@ -1,4 +1,4 @@
--- For callers: a start is ready, and what the output holds stays within it. Assumes nothing.
+-- For callers: a start is ready, and what the output holds grows and stays within it. Assumes nothing.
 use Prim.Native.Nat.{ℕ, _+_, _-_, _≤_}
 use mathlib.Core.Path.{_≡_, refl, sym, ap, _∙_, subst}
 use mathlib.Core.Bool.{Bool, true, false, cond}
@@ -25,59 +25,58 @@ use Rattle.schedule.proofs.Owed.{told-short}
 abbrev pub Within : Feeding → Type 0
 Within f = f .len ≤ length (f .out)
 
-answered-within : (f : Feeding) → isFull f ≡ false → Within (answered f)
+-- and is no less than before
+abbrev pub Grown : Feeding → Feeding → Type 0
+Grown f after = Within after × (f .len ≤ after .len)
+
+answered-grown : (f : Feeding) → isFull f ≡ false → Grown f (answered f)
 unfolding isFull telling
-answered-within f room =
+answered-grown f room =
     let free : longestRow ≤ length (f .out) - f .len = ltb-false _ _ room in
     let short = told-short (f .run) (bytesOf (f .held)) in
-    omega (arith, length-sets (f .out) (f .len) (recordTold (f .run) (bytesOf (f .held)) .printed))
+    (omega (arith, length-sets (f .out) (f .len) (recordTold (f .run) (bytesOf (f .held)) .printed)), omega arith)
 
-gathering-within : (f : Feeding) (byte : ℕ) → isFull f ≡ false → Within f → Within (gathering f byte)
+gathering-grown : (f : Feeding) (byte : ℕ) → isFull f ≡ false → Within f → Grown f (gathering f byte)
 unfolding isFull
-gathering-within f byte room within = go (closes (f .held) byte)
+gathering-grown f byte room within = go (closes (f .held) byte)
   where
-    go : (t : Bool) → Within (cond t (answered (holding f (put (f .held) byte))) (holding f (put (f .held) byte)))
-    go true = answered-within (holding f (put (f .held) byte)) room
-    go false = within
+    go : (t : Bool) → Grown f (cond t (answered (holding f (put (f .held) byte))) (holding f (put (f .held) byte)))
+    go true = answered-grown (holding f (put (f .held) byte)) room
+    go false = (within, omega arith)
 
-taken-within : (s : Stage) (f : Feeding) (byte : ℕ) → isFull f ≡ false → Within f → Within (takeIn s f byte)
-taken-within Waiting f byte room within = gathering-within f byte room within
-taken-within Running f byte room within = gathering-within f byte room within
-taken-within Over f byte room within = within
+taken-grown : (s : Stage) (f : Feeding) (byte : ℕ) → isFull f ≡ false → Within f → Grown f (takeIn s f byte)
+taken-grown Waiting f byte room within = gathering-grown f byte room within
+taken-grown Running f byte room within = gathering-grown f byte room within
+taken-grown Over f byte room within = (within, omega arith)
 
-feed-within : (f : Feeding) (bytes : List ℕ) → Within f → Within (feedOf f bytes .0)
+grown-on : (f g h : Feeding) → Grown f g → Grown g h → Grown f h
+grown-on f g h first second = (second .0, omega (arith, first .1, second .1))
+
+feed-grown : (f : Feeding) (bytes : List ℕ) → Within f → Grown f (feedOf f bytes .0)
 unfolding feedOf takeByte
-feed-within f [] within = within
-feed-within f (byte ∷ bytes) within =
-    go (isFull f) refl (sameStage (f .run) (takeByte f byte .run)) (λ room. feed-within (takeByte f byte) bytes (taken-within (f .run .stage) f byte room within))
+feed-grown f [] within = (within, omega arith)
+feed-grown f (byte ∷ bytes) within =
+    go (isFull f) refl (sameStage (f .run) (takeByte f byte .run)) (λ next. feed-grown (takeByte f byte) bytes (next .0))
   where
-    go : (full : Bool) → isFull f ≡ full → (same : Bool) → (isFull f ≡ false → Within (feedOf (takeByte f byte) bytes .0))
-        → Within (cond full (f, byte ∷ bytes) (cond same (feedOf (takeByte f byte) bytes) (takeByte f byte, bytes)) .0)
-    go true e same rest = within
-    go false e true rest = rest e
-    go false e false rest = taken-within (f .run .stage) f byte e within
+    go : (full : Bool) → isFull f ≡ full → (same : Bool)
+        → (Grown f (takeByte f byte) → Grown (takeByte f byte) (feedOf (takeByte f byte) bytes .0))
+        → Grown f (cond full (f, byte ∷ bytes) (cond same (feedOf (takeByte f byte) bytes) (takeByte f byte, bytes)) .0)
+    go true e same rest = (within, omega arith)
+    go false e true rest =
+        let next = taken-grown (f .run .stage) f byte e within in
+        grown-on f (takeByte f byte) (feedOf (takeByte f byte) bytes .0) next (rest next)
+    go false e false rest = taken-grown (f .run .stage) f byte e within
 
-pub fed-within : (f after : Feeding) (bytes left : List ℕ) → _≡_ {A = Feeding × List ℕ} (after, left) (feedOf f bytes) → Within f → Within after
-fed-within f after bytes left e within = subst (λ (r : Feeding × List ℕ). Within (r .0)) (sym e) (feed-within f bytes within)
+pub fed-grown : (f after : Feeding) (bytes left : List ℕ) → _≡_ {A = Feeding × List ℕ} (after, left) (feedOf f bytes) → Within f → Grown f after
+fed-grown f after bytes left e within = subst (λ (r : Feeding × List ℕ). Grown f (r .0)) (sym e) (feed-grown f bytes within)
 
-pub finished-within : (f after : Feeding) → after ≡ finishOf f → longestRow ≤ length (f .out) - f .len → Within after
+pub finished-grown : (f after : Feeding) → after ≡ finishOf f → longestRow ≤ length (f .out) - f .len → Grown f after
 unfolding finishOf
-finished-within f after e room = subst Within (sym e) (go (eqb (f .held .held) 0))
+finished-grown f after e room = subst (Grown f) (sym e) (go (eqb (f .held .held) 0))
   where
-    go : (t : Bool) → Within (finishIn t f)
-    go true = omega arith
-    go false = answered-within f (has-room f room)
-
--- the heading, where there is room for it
-pub started-within : (out out-after : List ℕ) (len : ℕ) → _≡_ {A = Written} (out-after, len) (putHeading out 0) → len ≤ length out-after
-started-within out out-after len e = subst (λ (w : Written). w .1 ≤ length (w .0)) (sym e) (go (leb (length heading) (length out - 0)) refl)
-  where
-    at : Bool → Written
-    at t = cond t (sets out 0 heading, 0 + length heading) (out, 0)
-
-    go : (t : Bool) → leb (length heading) (length out - 0) ≡ t → at t .1 ≤ length (at t .0)
-    go true q = omega (arith, leb-true (length heading) (length out - 0) q, length-sets out 0 heading)
-    go false q = omega arith
+    go : (t : Bool) → Grown f (finishIn t f)
+    go true = (omega arith, omega arith)
+    go false = answered-grown f (has-room f room)
 
 pub start-ready : (session : Session) (line words : List ℕ) → session ≡ sessionOf beginningRun → length line ≡ lineLength → Ready session line words
 start-ready session line words e long =
@@ -92,3 +91,6 @@ start-is session line out out-after len e put room =
     let whole = put ∙ ap (λ (t : Bool). cond t (sets out 0 heading, 0 + length heading) (out, 0)) (le-leb (length heading) (length out - 0) fits) in
     ap (λ (s : Session). feeding s line (replicate 144 0) out-after len) e
     ∙ ap (λ (w : Written). feeding (sessionOf beginningRun) line (replicate 144 0) (w .0) (w .1)) whole
+
+pub started-within : (line out : List ℕ) (f : Feeding) → f ≡ started line out .feeding → longestRow ≤ length out → Within f
+started-within line out f e room = subst Within (sym e) (omega (arith, length-sets out 0 heading))

@@ -1,5 +1,5 @@
--- A caller's actions one after another: bytes offered, the output written out where room is needed, and two stretches joined.
--- Assumes nothing.
+-- A caller's actions one after another: bytes offered, the output written out where room is needed, two stretches joined, and
+-- the end of the input. Assumes nothing.
 use Prim.Native.Nat.{ℕ, _+_, _-_, _≤_, _<_}
 use mathlib.Core.Path.{_≡_, refl, sym, ap, _∙_, subst}
 use mathlib.Core.Bool.{Bool, true, false, cond}
@@ -10,8 +10,8 @@ use lib.Dec.{ltb}
 use lib.ListN.{length, take, drop, length-drop}
 use lib.Seq.{take-add}
 use Rattle.printout.specs.Writing.{longestRow}
-use Rattle.schedule.specs.Feeding.{Feeding, feeding, feedOf, isFull, takeByte, sameStage}
-use Rattle.schedule.specs.WholeInput.{Action, offer, flush, Caller, act, acts, from, Takes, TakesSome, madeRoom}
+use Rattle.schedule.specs.Feeding.{Feeding, feeding, feedOf, finishOf, isFull, takeByte, sameStage}
+use Rattle.schedule.specs.WholeInput.{Action, offer, flush, Caller, act, acts, from, Takes, TakesSome, Ends, madeRoom}
 use Rattle.schedule.specs.declared.Session.{Session}
 use Rattle.schedule.proofs.FedOn.{has-room}
 use Rattle.schedule.proofs.WholeInput.{left-most}
@@ -148,3 +148,20 @@ takes-one f g bytes t = record { bytes = bytes; takes = t }
 
 pub some-then-some : (f g h : Feeding) → TakesSome f g → TakesSome g h → TakesSome f h
 some-then-some f g h a b = record { bytes = a .bytes ++ b .bytes; takes = takes-both f g h (a .bytes) (b .bytes) (a .takes) (b .takes) }
+
+-- the end of the input after some bytes, with room made for a last row
+pub ends-after : (f : Feeding) (session : Session) (line words out : List ℕ) (len : ℕ) → TakesSome f (feeding session line words out len)
+    → longestRow ≤ length out → (out-after : List ℕ) (len-after : ℕ)
+    → out-after ≡ finishOf (feeding session line words out (madeRoom (length out) len)) .out
+    → len-after ≡ finishOf (feeding session line words out (madeRoom (length out) len)) .len
+    → Ends f out-after len-after
+ends-after f session line words out len some enough out-after len-after bytes-held count-held =
+    let room = madeRoom (length out) len in
+    let before = feeding session line words out room in
+    record {
+      bytes = some .bytes;
+      before = before;
+      takes = takes-made-room session line words out len room refl f (some .bytes) (some .takes);
+      room = has-room before (room-made session line words out len room refl enough);
+      held = sym (ap (λ (l : List ℕ). take len-after l) bytes-held ∙ ap (λ (n : ℕ). take n (finishOf before .out)) count-held);
+    }

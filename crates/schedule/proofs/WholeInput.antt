@@ -143,9 +143,11 @@ whole-input =
           ap (λ (l : List ℕ). c .written ++ l) (sym (append-nil (output f))
           ∙ ap (λ (l : List ℕ). output f ++ l) (sym (over-rows (f .run) over (recordsFrom (o .part) rest))))
           ∙ o .owed rest;
-      taken = λ line out long room bytes f t free.
+      taken = λ line out long room out-after len e.
+          let t = e .takes in
           let c = acts (started line out) (t .actions) in
-          sym (ap (λ (x : Feeding). c .written ++ output (finishOf x)) (t .feeding))
-          ∙ input-ends line out long room (t .actions) (subst (λ (x : Feeding). isFull x ≡ false) (sym (t .feeding)) free)
+          ap (λ (l : List ℕ). c .written ++ l) (sym (e .held))
+          ∙ sym (ap (λ (x : Feeding). c .written ++ output (finishOf x)) (t .feeding))
+          ∙ input-ends line out long room (t .actions) (subst (λ (x : Feeding). isFull x ≡ false) (sym (t .feeding)) (e .room))
           ∙ ap printoutOf (t .read);
     }

@@ -70,6 +70,14 @@ pub record TakesSome (f after : Feeding) : Type 0 where
   pub bytes : List ℕ
   pub takes : Takes f bytes after
 
+-- some bytes are taken and the input ends, with room for a last row: what the output then holds
+pub record Ends (f : Feeding) (out : List ℕ) (len : ℕ) : Type 0 where
+  pub bytes : List ℕ
+  pub before : Feeding
+  pub takes : Takes f bytes before
+  pub room : isFull before ≡ false
+  pub held : output (finishOf before) ≡ take len out
+
 -- the output is written out where there may be no room for another row
 abbrev pub madeRoom : ℕ → ℕ → ℕ
 madeRoom lent len = cond (ltb (lent - len) longestRow) 0 len
@@ -86,7 +94,7 @@ pub record Whole : Type 1 where
       → acts (started line out) actions .feeding .run .stage ≡ Over → (rest : List ℕ)
       → acts (started line out) actions .written ++ output (acts (started line out) actions .feeding)
       ≡ printoutOf (acts (started line out) actions .read ++ rest)
-  -- where bytes were taken so and the input ends, with room for a last row
-  pub taken : (line out : List ℕ) → length line ≡ lineLength → longestRow ≤ length out → (bytes : List ℕ) (f : Feeding)
-      → (t : Takes (started line out .feeding) bytes f) → isFull f ≡ false
-      → acts (started line out) (t .actions) .written ++ output (finishOf f) ≡ printoutOf bytes
+  -- where bytes were taken so and the input has ended
+  pub taken : (line out : List ℕ) → length line ≡ lineLength → longestRow ≤ length out → (out-after : List ℕ) (len : ℕ)
+      → (e : Ends (started line out .feeding) out-after len)
+      → acts (started line out) (e .takes .actions) .written ++ take len out-after ≡ printoutOf (e .bytes)

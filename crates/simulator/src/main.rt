@@ -1,44 +1,45 @@
-// The program: a schedule read from standard input to its end, and its printout written to standard output. What the
-// system reads and writes no contract can say: `flush` and `turn` have those calls, and they are to be believed. All else
-// follows from `schedule`: the bytes that were read are taken, each once and in their order.
+// The program: a schedule read from standard input to its end, and its printout written to standard output. Contracts say
+// that the bytes which were read are taken, each once and in order, and that what is put into the output is written out
+// before anything else stands in its place. What they cannot say is which bytes the system reads and writes: for that `turn`,
+// `read_all` and output.rt are to be believed.
 ghost use mathlib.Core.Path.{_≡_};
 ghost use Prim.Native.Nat.{_≤_};
-ghost use lib.ListN.{length};
+ghost use lib.ListN.{length, replicate};
 ghost use Rattle.printout.specs.Writing.{longestRow};
 ghost use Rattle.schedule.specs.Feeding.{feeding, finishOf};
 ghost use Rattle.schedule.specs.Gathering.{lineLength};
 ghost use Rattle.schedule.specs.Ready.{Ready};
-ghost use Rattle.schedule.specs.WholeInput.{Takes, TakesSome, madeRoom};
+ghost use Rattle.schedule.specs.WholeInput.{started, Takes, TakesSome, Ends, madeRoom};
+
+mod output; // output.rt: the bytes that wait for standard output
+
 use libc::STDIN_FILENO;
-use libc::STDOUT_FILENO;
+use output::Output;
 use printout::LONGEST_ROW;
-use schedule::Next;
 use schedule::Session;
 use schedule::Stage;
 
+// A run, and what waits of its printout.
+struct State {
+    session: Session,
+    held: Output,
+}
+
 // A run after one read, and whether it has ended, for want of input or because it is over.
-struct Taken {
-    next: Next,
+struct AfterRead {
+    state: State,
     ended: bool,
 }
 
-// Writes out what the output holds.
-fn flush(out: &[u8], len: usize)
-    requires { ⌜ len ≤ length (now out) ⌝ }
+// The output with room for another row: where there may be none, it is written out.
+fn make_room(out: &[u8], held: Output) -> Output
+    requires { ⌜ held .len ≤ length (now out) ⌝ }
+    ensures { λ r. ⌜ r .len ≡ madeRoom (length (now (out .entry))) (held .len) ⌝ }
 {
-    io::write_all(STDOUT_FILENO, &out[..len]);
-}
-
-// How many bytes the output holds once there is room for another row: where there may be none, it is written out.
-fn make_room(out: &[u8], len: usize) -> usize
-    requires { ⌜ len ≤ length (now out) ⌝ }
-    ensures { λ r. ⌜ r ≡ madeRoom (length (now (out .entry))) len ⌝ }
-{
-    if out.len() - len < LONGEST_ROW {
-        flush(out, len);
-        return 0;
+    if out.len() - output::waiting(held) < LONGEST_ROW {
+        return output::flush(out, held);
     }
-    len
+    held
 }
 
 fn is_over(stage: Stage) -> bool {
@@ -56,109 +57,138 @@ fn take_chunk(
     line: &mut [u8],
     mem: &mut [u64],
     out: &mut [u8],
-    len: usize,
-) -> Next
-    requires { ⌜ Ready session (now line) (now mem) × (len ≤ length (now out)) × (longestRow ≤ length (now out)) ⌝ }
-    ensures takes { λ r. ⌜ Takes (feeding session (now (line .entry)) (now (mem .entry)) (now (out .entry)) len) (now (chunk .entry)) (feeding (r .session) (now (line .exit)) (now (mem .exit)) (now (out .exit)) (r .len)) ⌝ }
-    ensures ready { λ r. ⌜ Ready (r .session) (now (line .exit)) (now (mem .exit)) × (r .len ≤ length (now (out .exit))) ⌝ }
+    held: Output,
+) -> State
+    requires { ⌜ Ready session (now line) (now mem) × (held .len ≤ length (now out)) × (longestRow ≤ length (now out)) ⌝ }
+    ensures takes { λ r. ⌜ Takes (feeding session (now (line .entry)) (now (mem .entry)) (now (out .entry)) (held .len)) (now (chunk .entry)) (feeding (r .session) (now (line .exit)) (now (mem .exit)) (now (out .exit)) (r .held .len)) ⌝ }
+    ensures ready { λ r. ⌜ Ready (r .session) (now (line .exit)) (now (mem .exit)) × (r .held .len ≤ length (now (out .exit))) ⌝ }
 {
     let mut run = session;
-    let mut held = len;
+    let mut output = held;
     let mut at: usize = 0;
     while at < chunk.len() {
-        let room = make_room(out, held);
-        let fed = schedule::feed(run, chunk, at, line, mem, out, room);
+        let room = make_room(out, output);
+        let len = output::waiting(room);
+        let fed = schedule::feed(run, chunk, at, line, mem, out, len);
         run = fed.session;
         at = fed.next;
-        held = fed.len;
+        output = output::grown(room, fed.len);
     }
-    Next {
+    State {
         session: run,
-        len: held,
+        held: output,
     }
 }
 
 // One read of the input.
-fn turn(session: Session, line: &mut [u8], mem: &mut [u64], out: &mut [u8], len: usize) -> Taken
-    requires { ⌜ Ready session (now line) (now mem) × (len ≤ length (now out)) × (longestRow ≤ length (now out)) ⌝ }
-    ensures takes { λ r. ⌜ TakesSome (feeding session (now (line .entry)) (now (mem .entry)) (now (out .entry)) len) (feeding (r .next .session) (now (line .exit)) (now (mem .exit)) (now (out .exit)) (r .next .len)) ⌝ }
-    ensures ready { λ r. ⌜ Ready (r .next .session) (now (line .exit)) (now (mem .exit)) × (r .next .len ≤ length (now (out .exit))) ⌝ }
+fn turn(
+    session: Session,
+    line: &mut [u8],
+    mem: &mut [u64],
+    out: &mut [u8],
+    held: Output,
+) -> AfterRead
+    requires { ⌜ Ready session (now line) (now mem) × (held .len ≤ length (now out)) × (longestRow ≤ length (now out)) ⌝ }
+    ensures takes { λ r. ⌜ TakesSome (feeding session (now (line .entry)) (now (mem .entry)) (now (out .entry)) (held .len)) (feeding (r .state .session) (now (line .exit)) (now (mem .exit)) (now (out .exit)) (r .state .held .len)) ⌝ }
+    ensures ready { λ r. ⌜ Ready (r .state .session) (now (line .exit)) (now (mem .exit)) × (r .state .held .len ≤ length (now (out .exit))) ⌝ }
 {
     let mut buffer = io::large_buffer();
     let got = libc::read(STDIN_FILENO, &mut buffer);
+    if got < 0 {
+        output::warn(b"simulator: the input could not be read to its end\n");
+    }
     if got <= 0 {
-        return Taken {
-            next: Next {
+        return AfterRead {
+            state: State {
                 session: session,
-                len: len,
+                held: held,
             },
             ended: true,
         };
     }
     let n = io::count(got, &buffer);
-    let next = take_chunk(session, &buffer[..n], line, mem, out, len);
-    let after = next.session;
+    let state = take_chunk(session, &buffer[..n], line, mem, out, held);
+    let after = state.session;
     let stage = after.stage;
     let ended = is_over(stage);
-    Taken {
-        next: next,
+    AfterRead {
+        state: state,
         ended: ended,
     }
 }
 
 // The whole input, up to its end or the run's.
-fn read_all(session: Session, line: &mut [u8], mem: &mut [u64], out: &mut [u8], len: usize) -> Next
-    requires { ⌜ Ready session (now line) (now mem) × (len ≤ length (now out)) × (longestRow ≤ length (now out)) ⌝ }
-    ensures takes { λ r. ⌜ TakesSome (feeding session (now (line .entry)) (now (mem .entry)) (now (out .entry)) len) (feeding (r .session) (now (line .exit)) (now (mem .exit)) (now (out .exit)) (r .len)) ⌝ }
-    ensures ready { λ r. ⌜ Ready (r .session) (now (line .exit)) (now (mem .exit)) × (r .len ≤ length (now (out .exit))) ⌝ }
+fn read_all(
+    session: Session,
+    line: &mut [u8],
+    mem: &mut [u64],
+    out: &mut [u8],
+    held: Output,
+) -> State
+    requires { ⌜ Ready session (now line) (now mem) × (held .len ≤ length (now out)) × (longestRow ≤ length (now out)) ⌝ }
+    ensures takes { λ r. ⌜ TakesSome (feeding session (now (line .entry)) (now (mem .entry)) (now (out .entry)) (held .len)) (feeding (r .session) (now (line .exit)) (now (mem .exit)) (now (out .exit)) (r .held .len)) ⌝ }
+    ensures ready { λ r. ⌜ Ready (r .session) (now (line .exit)) (now (mem .exit)) × (r .held .len ≤ length (now (out .exit))) ⌝ }
 {
     let mut run = session;
-    let mut held = len;
+    let mut output = held;
     let mut turns = u64::MAX;
     while turns > 0 {
-        let taken = turn(run, line, mem, out, held);
-        let next = taken.next;
-        run = next.session;
-        held = next.len;
+        let taken = turn(run, line, mem, out, output);
+        let state = taken.state;
+        run = state.session;
+        output = state.held;
         if taken.ended {
-            return Next {
+            return State {
                 session: run,
-                len: held,
+                held: output,
             };
         }
         turns -= 1;
     }
-    Next {
+    State {
         session: run,
-        len: held,
+        held: output,
     }
 }
 
-// The end of the input: how many bytes the output holds with the last record's row.
-fn end(session: Session, line: &[u8], mem: &mut [u64], out: &mut [u8], len: usize) -> usize
-    requires { ⌜ Ready session (now line) (now mem) × (len ≤ length (now out)) × (longestRow ≤ length (now out)) ⌝ }
-    ensures finished { λ r. ⌜ (now (out .exit) ≡ finishOf (feeding session (now (line .entry)) (now (mem .entry)) (now (out .entry)) (madeRoom (length (now (out .entry))) len)) .out) × (r ≡ finishOf (feeding session (now (line .entry)) (now (mem .entry)) (now (out .entry)) (madeRoom (length (now (out .entry))) len)) .len) ⌝ }
-    ensures within { λ r. ⌜ r ≤ length (now (out .exit)) ⌝ }
+// The end of the input: the output with the last record's row.
+fn end(session: Session, line: &[u8], mem: &mut [u64], out: &mut [u8], held: Output) -> Output
+    requires { ⌜ Ready session (now line) (now mem) × (held .len ≤ length (now out)) × (longestRow ≤ length (now out)) ⌝ }
+    ensures finished { λ r. ⌜ (now (out .exit) ≡ finishOf (feeding session (now (line .entry)) (now (mem .entry)) (now (out .entry)) (madeRoom (length (now (out .entry))) (held .len))) .out) × (r .len ≡ finishOf (feeding session (now (line .entry)) (now (mem .entry)) (now (out .entry)) (madeRoom (length (now (out .entry))) (held .len))) .len) ⌝ }
+    ensures within { λ r. ⌜ r .len ≤ length (now (out .exit)) ⌝ }
 {
-    let room = make_room(out, len);
-    let last = schedule::finish(session, line, mem, out, room);
-    last.len
+    let room = make_room(out, held);
+    let len = output::waiting(room);
+    let last = schedule::finish(session, line, mem, out, len);
+    output::grown(room, last.len)
 }
 
-fn run(line: &mut [u8], mem: &mut [u64], out: &mut [u8])
-    requires { ⌜ (length (now line) ≡ lineLength) × (longestRow ≤ length (now out)) ⌝ }
+// A whole run, but for what waits at its end.
+fn run(line: &mut [u8], mem: &mut [u64], out: &mut [u8]) -> Output
+    requires { ⌜ (length (now line) ≡ lineLength) × (now mem ≡ replicate 144 0) × (longestRow ≤ length (now out)) ⌝ }
+    ensures ends { λ r. ⌜ Ends (started (now (line .entry)) (now (out .entry)) .feeding) (now (out .exit)) (r .len) ⌝ }
+    ensures within { λ r. ⌜ r .len ≤ length (now (out .exit)) ⌝ }
 {
     let begun = schedule::start(out);
     let session = begun.session;
-    let read = read_all(session, line, mem, out, begun.len);
+    let heading = output::begun(begun.len);
+    let read = read_all(session, line, mem, out, heading);
     let after = read.session;
-    let len = end(after, line, mem, out, read.len);
-    flush(out, len);
+    end(after, line, mem, out, read.held)
+}
+
+// A whole run, of which nothing waits any more.
+fn print(line: &mut [u8], mem: &mut [u64], out: &mut [u8]) -> Output
+    requires { ⌜ (length (now line) ≡ lineLength) × (now mem ≡ replicate 144 0) × (longestRow ≤ length (now out)) ⌝ }
+    ensures { λ r. ⌜ r .len ≡ 0 ⌝ }
+{
+    let held = run(line, mem, out);
+    output::flush(out, held)
 }
 
 fn main() {
     let mut line = [0u8; 513];
     let mut mem = [0u64; 144];
     let mut out = [0u8; 65536];
-    run(&mut line, &mut mem, &mut out);
+    print(&mut line, &mut mem, &mut out);
 }

@@ -11,12 +11,12 @@ use Rattle.simulator.proofs.read_all.Statement.{statement}
 use Rattle.simulator.proofs.read_all.Tie as tie
 
 abbrev Inv-loop : tie.InvT-loop
-Inv-loop line₀ mem₀ out₀ len run₀ held₀ turns₀ line mem out run held turns =
-    Ready run line mem × (held ≤ length out) × (length line ≡ length line₀) × (length mem ≡ length mem₀) × (length out ≡ length out₀)
-    × TakesSome (feeding run₀ line₀ mem₀ out₀ len) (feeding run line mem out held)
+Inv-loop line₀ mem₀ out₀ run₀ output₀ turns₀ line mem out run output turns =
+    Ready run line mem × (output .len ≤ length out) × (length line ≡ length line₀) × (length mem ≡ length mem₀) × (length out ≡ length out₀)
+    × TakesSome (feeding run₀ line₀ mem₀ out₀ (output₀ .len)) (feeding run line mem out (output .len))
 
 abbrev μ-loop : tie.MeasureT-loop
-μ-loop line₀ mem₀ out₀ len run₀ held₀ turns₀ line mem out run held turns = turns
+μ-loop line₀ mem₀ out₀ run₀ output₀ turns₀ line mem out run output turns = turns
 
 loop-holds : tie.Need-loop-holds Inv-loop μ-loop
 loop-holds c =
@@ -40,7 +40,7 @@ same-length-3 c = omega arith
 
 returns : tie.Need-returns Inv-loop μ-loop
 returns c =
-    let at-turn = c .before .before .before .before .before .before .before .before .before in
+    let at-turn = c .before .before .before .before .before .before .before .before .before .before in
     let loop = at-turn .before .before .before .before .before .loop in
     let taken = at-turn .turn .ensures in
     (some-then-some _ _ _ (loop .inv .5) (taken .0), taken .1)
@@ -53,7 +53,7 @@ loop-less c = omega arith
 
 loop-again : tie.Need-loop-again Inv-loop μ-loop
 loop-again c =
-    let at-turn = c .before .before .before .before .before .before .before .before .before in
+    let at-turn = c .before .before .before .before .before .before .before .before .before .before in
     let loop = at-turn .before .before .before .before .before .loop in
     let taken = at-turn .turn .ensures in
     (taken .1 .0, taken .1 .1, omega arith, omega arith, omega arith, some-then-some _ _ _ (loop .inv .5) (taken .0))

@@ -13,9 +13,15 @@ slice-aggregate-read c = search needs
 read-requires : tie.Need-read-requires
 read-requires c κs = search needs
 
+slice-aggregate-warn : tie.Need-slice-aggregate-warn
+slice-aggregate-warn c = search needs
+
+warn-requires : tie.Need-warn-requires
+warn-requires c κs = search needs
+
 returns : tie.Need-returns
 returns c =
-    let start = c .before .before .before .before .before .before .before .before in
+    let start = c .before .before .before .before .before .before .before .before .before in
     (takes-one _ _ _ (takes-none _), (start .pre .0, start .pre .1))
 
 slice-aggregate-count : tie.Need-slice-aggregate-count
@@ -55,6 +61,8 @@ turn-spec =
     large-buffer-requires
     slice-aggregate-read
     read-requires
+    slice-aggregate-warn
+    warn-requires
     returns
     slice-aggregate-count
     count-requires
