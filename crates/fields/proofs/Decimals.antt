@@ -3,13 +3,17 @@
 use Prim.Native.Nat.{ℕ, zero, suc, _+_, _-_, _*_, _<_, _≤_, _/_, _%_, _^_}
 use mathlib.Core.Path.{_≡_, refl}
 use mathlib.Core.Bool.{Bool, true, false, cond}
-use mathlib.Core.List.{List, [], _∷_, _++_}
+use mathlib.Core.List.{List, [], _∷_}
 use native.Mathlib.Omega.{arith}
 use native.Mathlib.Nat.{pow-suc}
 use lib.Dec.{ltb}
 use lib.ListN.{length, length-append}
 use borrow.Author.Tests.{le-ltb, lt-ltb, ltb-true, ltb-false}
-use Rattle.fields.specs.Decimal.{decimalIn}
+use Rattle.fields.specs.Decimal.{decimalIn, followedBy}
+
+-- a digit is one more, at whichever end it stands
+longer : (digits : List ℕ) (d : ℕ) → length (followedBy digits d) ≡ suc (length digits)
+longer digits d = omega (arith, length-append digits ((48 + d) ∷ []), length-append ((48 + d) ∷ []) digits)
 
 pub short : (room n : ℕ) → length (decimalIn room n) ≤ room
 unfolding decimalIn
@@ -17,12 +21,12 @@ short zero n = omega arith
 short (suc room) n = by-test (ltb n 10) (short room (n / 10))
   where
     by-test : (b : Bool) → length (decimalIn room (n / 10)) ≤ room
-        → length (cond b ((48 + n) ∷ []) (decimalIn room (n / 10) ++ ((48 + n % 10) ∷ []))) ≤ suc room
+        → length (cond b (followedBy [] n) (followedBy (decimalIn room (n / 10)) (n % 10))) ≤ suc room
     by-test true h = omega arith
-    by-test false h = omega (arith, length-append (decimalIn room (n / 10)) ((48 + n % 10) ∷ []))
+    by-test false h = omega (arith, longer (decimalIn room (n / 10)) (n % 10))
 
 -- a number of two digits or more
-pub decimal-long : (room n : ℕ) → 0 < room → 9 < n → decimalIn room n ≡ decimalIn (room - 1) (n / 10) ++ ((48 + n % 10) ∷ [])
+pub decimal-long : (room n : ℕ) → 0 < room → 9 < n → decimalIn room n ≡ followedBy (decimalIn (room - 1) (n / 10)) (n % 10)
 unfolding decimalIn
 decimal-long zero n p h = absurd (let y : ⊥ = omega arith in y)
 decimal-long (suc room) n p h = let e : suc room - 1 ≡ room = omega arith in rw e (simp (le-ltb n 10 h))
@@ -44,7 +48,7 @@ tenth (suc (suc room)) n h g =
 
 -- what holds of one digit, and of a number where it holds of its tenth, holds of every number that has room
 pub by-digits : (P : ℕ → List ℕ → Type 0) → ((n : ℕ) → n ≤ 9 → P n ((48 + n) ∷ []))
-    → ((n : ℕ) (a : List ℕ) → 9 < n → 0 < length a → P (n / 10) a → P n (a ++ ((48 + n % 10) ∷ [])))
+    → ((n : ℕ) (a : List ℕ) → 9 < n → 0 < length a → P (n / 10) a → P n (followedBy a (n % 10)))
     → (room n : ℕ) → 0 < room → n < 10 ^ room → P n (decimalIn room n) × (0 < length (decimalIn room n))
 by-digits P one more zero n p h = absurd (let y : ⊥ = omega arith in y)
 by-digits P one more (suc room) n p h =
@@ -63,5 +67,4 @@ by-digits P one more (suc room) n p h =
         let g : 9 < n = omega (arith, ltb-false n 10 e) in
         let r = k g in
         let q : suc room - 1 ≡ room = omega arith in
-        let longer = length-append (decimalIn room (n / 10)) ((48 + n % 10) ∷ []) in
-        rw (decimal-long (suc room) n p g, q) (more n (decimalIn room (n / 10)) g (r .1) (r .0), omega (arith, longer))
+        rw (decimal-long (suc room) n p g, q) (more n (decimalIn room (n / 10)) g (r .1) (r .0), omega (arith, longer (decimalIn room (n / 10)) (n % 10)))

@@ -2,32 +2,32 @@
 use Prim.Native.Nat.{ℕ, _+_, _-_, _*_, _<_, _≤_, _/_, _%_, _^_}
 use mathlib.Core.Path.{_≡_, refl, sym, _∙_}
 use mathlib.Core.Bool.{Bool, true, false, _&&_}
-use mathlib.Core.List.{List, [], _∷_, _++_}
+use mathlib.Core.List.{List, [], _∷_}
 use native.Mathlib.Omega.{arith}
 use lib.Dec.{eqb, leb}
 use lib.ListN.{length, getD, List·getD-append}
 use borrow.Author.Tests.{lt-ltb, ne-eqb, le-leb, leb-true}
 use Rattle.fields.specs.Number.{valueFrom, allDigits, isDigit, zeroLeads, numberCase, numberOf}
-use Rattle.fields.specs.Decimal.{decimal}
+use Rattle.fields.specs.Decimal.{decimal, followedBy}
 use Rattle.fields.specs.declared.number.Number.the-variants.{Value}
 use Rattle.rules.proofs.Tests.{and-both}
 use Rattle.fields.proofs.Decimals.{by-digits}
 
--- one digit more at the end
-value-snoc : (a : List ℕ) (d before : ℕ) → valueFrom before (a ++ (d ∷ [])) ≡ valueFrom before a * 10 + (d - 48)
+-- digits with one more after them spell ten times as much, and that digit
+value-followed : (a : List ℕ) (d before : ℕ) → valueFrom before (followedBy a d) ≡ valueFrom before a * 10 + d
 unfolding valueFrom
-value-snoc [] d before = refl
-value-snoc (x ∷ a) d before = value-snoc a d (before * 10 + (x - 48))
+value-followed [] d before = omega arith
+value-followed (x ∷ a) d before = value-followed a d (before * 10 + (x - 48))
 
 digit-is : (d : ℕ) → d ≤ 9 → isDigit (48 + d) ≡ true
 digit-is d h = and-both (leb 48 (48 + d)) (leb (48 + d) 57) (le-leb 48 (48 + d) (omega arith)) (le-leb (48 + d) 57 (omega arith))
 
-digits-snoc : (a : List ℕ) (d : ℕ) → allDigits a ≡ true → isDigit d ≡ true → allDigits (a ++ (d ∷ [])) ≡ true
+digits-followed : (a : List ℕ) (d : ℕ) → allDigits a ≡ true → d ≤ 9 → allDigits (followedBy a d) ≡ true
 unfolding allDigits
-digits-snoc [] d p q = and-both (isDigit d) true q refl
-digits-snoc (x ∷ a) d p q = more (isDigit x) p (λ r. digits-snoc a d r q)
+digits-followed [] d p h = and-both (isDigit (48 + d)) true (digit-is d h) refl
+digits-followed (x ∷ a) d p h = more (isDigit x) p (λ r. digits-followed a d r h)
   where
-    more : (b : Bool) → b && allDigits a ≡ true → (allDigits a ≡ true → allDigits (a ++ (d ∷ [])) ≡ true) → b && allDigits (a ++ (d ∷ [])) ≡ true
+    more : (b : Bool) → b && allDigits a ≡ true → (allDigits a ≡ true → allDigits (followedBy a d) ≡ true) → b && allDigits (followedBy a d) ≡ true
     more true e k = k e
     more false e k = e
 
@@ -39,10 +39,10 @@ one-spelt : (n : ℕ) → n ≤ 9 → Spelt n ((48 + n) ∷ [])
 unfolding allDigits valueFrom
 one-spelt n h = (and-both (isDigit (48 + n)) true (digit-is n h) refl, omega arith, (λ p e. omega arith), λ e. omega arith)
 
-more-spelt : (n : ℕ) (a : List ℕ) → 9 < n → 0 < length a → Spelt (n / 10) a → Spelt n (a ++ ((48 + n % 10) ∷ []))
+more-spelt : (n : ℕ) (a : List ℕ) → 9 < n → 0 < length a → Spelt (n / 10) a → Spelt n (followedBy a (n % 10))
 more-spelt n a g l s = (
-  digits-snoc a (48 + n % 10) (s .0) (digit-is (n % 10) (omega arith)),
-  omega (arith, value-snoc a (48 + n % 10) 0, s .1),
+  digits-followed a (n % 10) (s .0) (omega arith),
+  omega (arith, value-followed a (n % 10) 0, s .1),
   (λ p e. s .2 (omega arith) (sym (List·getD-append a ((48 + n % 10) ∷ []) 0 0 l) ∙ e)),
   λ e. omega arith,
 )

@@ -5,10 +5,14 @@ use mathlib.Core.List.{List, [], _∷_, _++_}
 use lib.Dec.{ltb}
 use Rattle.fields.specs.Bytes.{zeroDigit}
 
+-- digits, and one more after them
+abbrev pub followedBy : List ℕ → ℕ → List ℕ
+followedBy digits d = digits ++ ((zeroDigit + d) ∷ [])
+
 -- at most `room` digits
 unfoldable pub decimalIn : ℕ → ℕ → List ℕ
 decimalIn zero n = []
-decimalIn (suc room) n = cond (ltb n 10) ((zeroDigit + n) ∷ []) (decimalIn room (n / 10) ++ ((zeroDigit + n % 10) ∷ []))
+decimalIn (suc room) n = cond (ltb n 10) (followedBy [] n) (followedBy (decimalIn room (n / 10)) (n % 10))
 
 -- a number below 2^64 has at most 20
 abbrev pub decimal : ℕ → List ℕ

@@ -1,0 +1,2 @@
+-- Two outcomes of an address are equal (Settled).
+pub mod Settled
