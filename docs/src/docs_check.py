@@ -2,8 +2,9 @@
 """Check that the documents name what is there: docs_check.py
 
 In README.md and docs/*.md every link leads to a file; every path below crates/, docs/ and examples/ is there; every
-name between backticks is somewhere in the sources, or is an edit, an example or a crate; every edit of a table of
-edits is there; and AUDIT.md's counts of lines are those of the files.
+name between backticks (a span that is one name, or names joined by :: or /) is somewhere in the sources, or is an edit,
+an example or a crate; every edit of a table of edits is there; every row of a printout that GUIDE.md shows is a row of a
+printout of examples/; and AUDIT.md's counts of lines are those of the files. What the sentences say it cannot check.
 """
 import pathlib
 import re
@@ -76,12 +77,20 @@ def edit_faults(document, text, known):
                     yield f"{document}: no edit {name}"
 
 
+def row_faults():
+    stored = {line for path in pathlib.Path("examples").glob("*.printout.csv") for line in path.read_text().split("\n")}
+    for line in pathlib.Path("docs/GUIDE.md").read_text(encoding="utf-8").split("\n"):
+        row = re.fullmatch(r"    ((?:no|\d+),.*)", line)
+        if row and row.group(1) not in stored:
+            yield f"docs/GUIDE.md: no printout of examples/ has the row {row.group(1)}"
+
+
 def main():
     known = edits()
     words = set(FOREIGN) | known | {path.stem for path in SOURCES} | {path.name for path in pathlib.Path("crates").iterdir()}
     for path in SOURCES:
         words.update(re.findall(r"[A-Za-z][\w-]*", path.read_text(encoding="utf-8", errors="replace")))
-    found = list(count_faults())
+    found = [*count_faults(), *row_faults()]
     for document in DOCUMENTS:
         text = document.read_text(encoding="utf-8")
         found += path_faults(document, text)
