@@ -54,7 +54,7 @@ end-requires c κs =
     let at-read = c .before .before .before .before .before .before .before .before .before .before in
     let start = at-read .before .before .before .before .before .before .before .before .before .before .before .before .before in
     let ready = at-read .read-all .ensures .1 in
-    (ready .0, ready .1, omega arith)
+    (ready .0, ready .1, omega (arith, start .pre .2))
 
 same-length : tie.Need-same-length
 same-length c = search needs
@@ -76,7 +76,11 @@ returns c =
     let some = from-start _ (start .args .line .now) (start .args .mem .now) (start .args .out .now) _ _ _ _ (begun .0) (begun .1) (start .pre .2)
     (start .pre .1) (at-begun .begun .ensures) (at-read .read-all .ensures .0) in
     let ended = at-end .end .ensures in
-    (ends-after _ (at-read .read-all .result .session) _ _ _ _ some (omega (arith, start .pre .2, at-begun .before .before .before .out .given, at-end .before .before .before .before .before .before .out2 .given)) _ _ (ended .0 .0) (ended .0 .1), ended .1)
+    let at-out = at-begun .before .before .before in
+    let at-out2 = at-end .before .before .before .before .before .before in
+    let all = ends-after _ (at-read .read-all .result .session) _ _ _ _ some (omega (arith, start .pre .2, at-out .out .given, at-out2 .out2 .given))
+    _ _ (ended .0 .0) (ended .0 .1) in
+    (all, ended .1)
 
 pub run-spec : {M : Type 1} → statement M
 run-spec =
