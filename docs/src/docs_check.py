@@ -2,8 +2,8 @@
 """Check that the documents name what is there: docs_check.py
 
 In README.md and docs/*.md every link leads to a file; every path below crates/, docs/ and examples/ is there; every
-name between backticks is somewhere in the sources, or is an edit, an example or a crate; every edit of a table of
-edits is there; and AUDIT.md's counts of lines are those of the files.
+source between backticks ends the path of one; every name between backticks is somewhere in the sources, or is an edit,
+an example or a crate; every edit of a table of edits is there; and AUDIT.md's counts of lines are those of the files.
 """
 import pathlib
 import re
@@ -52,6 +52,9 @@ def path_faults(document, text):
     for path in re.findall(r"(?:crates|docs|examples)/[\w./*-]*[\w*]", text):
         if "NAME" not in path and not list(pathlib.Path(".").glob(path)):
             yield f"{document}: no {path}"
+    for name in re.findall(r"`([\w/-]+\.(?:rt|antt|rs|py|sh))`", text):
+        if not any(f"/{path}".endswith(f"/{name}") for path in SOURCES):
+            yield f"{document}: no source {name}"
 
 
 def name_faults(document, text, words):
@@ -78,7 +81,8 @@ def edit_faults(document, text, known):
 
 def main():
     known = edits()
-    words = set(FOREIGN) | known | {path.stem for path in SOURCES} | {path.name for path in pathlib.Path("crates").iterdir()}
+    crates = {path.name for path in pathlib.Path("crates").iterdir()}
+    words = FOREIGN | known | crates | {path.stem for path in SOURCES}
     for path in SOURCES:
         words.update(re.findall(r"[A-Za-z][\w-]*", path.read_text(encoding="utf-8", errors="replace")))
     found = list(count_faults())
