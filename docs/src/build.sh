@@ -1,7 +1,7 @@
 #!/bin/sh
-# Compiles the plain stepper, the comparison and the exhaustive check into
-# target/outside/. Needs rustc alone. A program is compiled again only if one
-# of the sources is newer than it.
+# Compiles the plain stepper, the plain program, the comparison and the exhaustive
+# check into target/outside/. Needs rustc alone. A program is compiled again only
+# if one of the sources is newer than it.
 set -eu
 
 cd "$(dirname "$0")/../.."
@@ -9,8 +9,9 @@ src=docs/src
 out=target/outside
 mkdir -p "$out"
 
-# The values of cfg(slip) that slip.rs knows; see slips.sh.
-slips='cfg(slip, values("1", "2", "3", "4", "5", "6", "7"))'
+# The values of cfg(slip) that stepper/slip.rs knows; see slips.sh.
+slips=$(sed -n 's/.*slip = "\([0-9]*\)".*/\1/p' "$src/stepper/slip.rs")
+known_slips="cfg(slip, values($(printf '"%s",' $slips)))"
 
 # stale FILE: true if FILE is missing or a source is newer.
 stale() {
@@ -24,24 +25,28 @@ compile() {
     shift 2
     if stale "$out/$target"; then
         rustc -O -C codegen-units=1 --edition 2021 -D warnings \
-            --check-cfg 'cfg(test)' --check-cfg "$slips" "$@" -o "$out/$target" "$src/$source"
+            --check-cfg 'cfg(test)' --check-cfg "$known_slips" "$@" -o "$out/$target" "$src/$source"
     fi
 }
 
-compile libstepper.rlib stepper.rs --crate-type rlib --crate-name stepper
-compile stepper-tests stepper.rs --test
-for program in plain compare exhaustive; do
-    compile "$program" "$program.rs" --extern "stepper=$out/libstepper.rlib"
-done
+# build SUFFIX PROGRAMS [OPTION...]: a stepper compiled so, and the programs that use it.
+build() {
+    suffix=$1
+    programs=$2
+    shift 2
+    compile "libstepper$suffix.rlib" stepper/lib.rs --crate-type rlib --crate-name stepper "$@"
+    for program in $programs; do
+        compile "$program$suffix" "$program/main.rs" --crate-name "$program" \
+            --extern "stepper=$out/libstepper$suffix.rlib"
+    done
+}
+
+build '' 'plain compare exhaustive'
+compile stepper-tests stepper/lib.rs --test
 
 # build.sh --slips: the broken variants too, each with its own stepper.
 if [ "${1:-}" = --slips ]; then
-    for slip in 1 2 3 4 5 6 7; do
-        compile "libstepper-slip-$slip.rlib" stepper.rs \
-            --crate-type rlib --crate-name stepper --cfg "slip=\"$slip\""
-        for program in plain exhaustive; do
-            compile "$program-slip-$slip" "$program.rs" \
-                --extern "stepper=$out/libstepper-slip-$slip.rlib"
-        done
+    for slip in $slips; do
+        build "-slip-$slip" 'plain exhaustive' --cfg "slip=\"$slip\""
     done
 fi

@@ -23,7 +23,8 @@ def written_again(schedule):
 
 
 def faults(program, path):
-    printed = subprocess.run([program], input=written_again(path.read_bytes()), stdout=subprocess.PIPE, check=True).stdout
+    schedule = written_again(path.read_bytes())
+    printed = subprocess.run([program], input=schedule, stdout=subprocess.PIPE, check=True).stdout
     stored = path.with_name(path.name.replace(".csv", ".printout.csv")).read_bytes()
     rows = list(csv.reader(io.StringIO(printed.decode("ascii"), newline="")))
     if printed != stored:
@@ -46,7 +47,8 @@ def main():
     found = [f"{path}: {fault}" for path in schedules for fault in faults(program, path)]
     sheets = sorted(pathlib.Path("examples/from-a-sheet").glob("*.csv"))
     found += [f"{path}: {fault}" for path in sheets for fault in sheet_faults(path)]
-    print("\n".join(found) if found else f"{len(schedules)} schedules read, run and read back by the csv module, {len(sheets)} made of a spreadsheet's")
+    well = f"{len(schedules)} schedules read, run and read back by the csv module, {len(sheets)} made of a spreadsheet's"
+    print("\n".join(found) if found else well)
     sys.exit(1 if found else 0)
 
 

@@ -154,7 +154,8 @@ def places(kind):
 def held(number):
     place, header, segment, value = digits(number, 7, 3, 4, 2)
     c = Case("many")
-    c.process = Process(PLACES[7 + place], 1, [1, 2, LIMIT - 1][header], [0, 1, 2, TOP][segment], [LIMIT - 1, LIMIT][value], opened=7)
+    header, segment, value = [1, 2, LIMIT - 1][header], [0, 1, 2, TOP][segment], [LIMIT - 1, LIMIT][value]
+    c.process = Process(PLACES[7 + place], 1, header, segment, value, opened=7)
     return c
 
 
@@ -191,7 +192,8 @@ def one_word(number):
 def sizes(number):
     kind, setting = KINDS[number % 2], number // 2
     counts, bits, segments = [0, 1, 16, 17, TOP], [0, 3, 4, 48, 49, TOP], [0, 1, 2, 4, 5, TOP]
-    changes = [("n", v) for v in counts] + [("t", v) for v in counts] + [("b", v) for v in bits] + [("w", v) for v in segments]
+    tried = {"n": counts, "t": counts, "b": bits, "w": segments}
+    changes = [(name, value) for name, values in tried.items() for value in values]
     c = Case(kind, w=1)
     setattr(c, *changes[setting])
     return c
@@ -223,7 +225,20 @@ def calls(number):
     return c
 
 
-FAMILIES = [places("one"), places("many"), (168, held), (36, opened), (288, kept), (96, carried), (120, one_word), (44, sizes), (20, lent), (24, numbers), (160, calls)]
+# How many cases each family has, and what makes a case from its number.
+FAMILIES = [
+    places("one"),
+    places("many"),
+    (168, held),
+    (36, opened),
+    (288, kept),
+    (96, carried),
+    (120, one_word),
+    (44, sizes),
+    (20, lent),
+    (24, numbers),
+    (160, calls),
+]
 
 if __name__ == "__main__":
     for family, (count, case) in enumerate(FAMILIES):

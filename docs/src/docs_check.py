@@ -2,9 +2,10 @@
 """Check that the documents name what is there: docs_check.py
 
 In README.md and docs/*.md every link leads to a file; every path below crates/, docs/ and examples/ is there; every
-name between backticks (a span that is one name, or names joined by :: or /) is somewhere in the sources, or is an edit,
-an example or a crate; every edit of a table of edits is there; every row of a printout that GUIDE.md shows is a row of a
-printout of examples/; and AUDIT.md's counts of lines are those of the files. What the sentences say it cannot check.
+name of a source file between backticks ends the path of one; every other name between backticks (a span that is one
+name, or names joined by :: or /) is somewhere in the sources, or is an edit, an example or a crate; every edit of a table
+of edits is there; every row of a printout that GUIDE.md shows is a row of a printout of examples/; and AUDIT.md's counts
+of lines are those of the files. What the sentences say it cannot check.
 """
 import pathlib
 import re
@@ -53,6 +54,9 @@ def path_faults(document, text):
     for path in re.findall(r"(?:crates|docs|examples)/[\w./*-]*[\w*]", text):
         if "NAME" not in path and not list(pathlib.Path(".").glob(path)):
             yield f"{document}: no {path}"
+    for name in re.findall(r"`([\w/-]+\.(?:rt|antt|rs|py|sh))`", text):
+        if not any(f"/{path}".endswith(f"/{name}") for path in SOURCES):
+            yield f"{document}: no source {name}"
 
 
 def name_faults(document, text, words):
@@ -87,7 +91,8 @@ def row_faults():
 
 def main():
     known = edits()
-    words = set(FOREIGN) | known | {path.stem for path in SOURCES} | {path.name for path in pathlib.Path("crates").iterdir()}
+    crates = {path.name for path in pathlib.Path("crates").iterdir()}
+    words = FOREIGN | known | crates | {path.stem for path in SOURCES}
     for path in SOURCES:
         words.update(re.findall(r"[A-Za-z][\w-]*", path.read_text(encoding="utf-8", errors="replace")))
     found = [*count_faults(), *row_faults()]

@@ -11,7 +11,14 @@ import subprocess
 import sys
 
 OUTSIDE = pathlib.Path("target/outside")
-BOARDS = ["16,many,16,16,4,,", "16,many,16,16,1,,", "1,many,16,16,4,,", "1,many,16,16,1,,", "16,one,16,16,1,,", "1,one,16,16,1,,"]
+BOARDS = [
+    "16,many,16,16,4,,",
+    "16,many,16,16,1,,",
+    "1,many,16,16,4,,",
+    "1,many,16,16,1,,",
+    "16,one,16,16,1,,",
+    "1,one,16,16,1,,",
+]
 RUNS = 5
 
 

@@ -1,7 +1,11 @@
 //! What no schedule can show: words by themselves, values that only the
 //! library's own callers can give, and boards not in good form.
 
-use super::*;
+use super::Board;
+use crate::call::{Answer, Call, Refusal, NO_VALUES};
+use crate::process::{Access, Copying, Place};
+use crate::sizes::{Kind, Settings, MOST_SEGMENTS, MOST_WORDS};
+use crate::word::Layout;
 
 fn board(kind: Kind) -> Board {
     let segments = if kind == Kind::One { 1 } else { 2 };
@@ -12,7 +16,7 @@ fn board(kind: Kind) -> Board {
 /// Process 0 has its sequence on variable 0 open and is idle.
 fn loaded(kind: Kind) -> Board {
     let mut board = board(kind);
-    board.begin(0, Call::Load(0), [0; MOST_SEGMENTS]);
+    board.begin(0, Call::Load(0), NO_VALUES);
     while board.processes[0].place != Place::Idle {
         board.step(0);
     }

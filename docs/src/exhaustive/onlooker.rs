@@ -3,11 +3,11 @@
 //! all it sees is who began what, each step's answer, and when a store took
 //! effect.
 
-use stepper::{Answer, Call, Kind, Settings, Values, MOST_SEGMENTS};
+use stepper::{Answer, Call, Kind, Settings, Values, NO_VALUES};
 
 /// The boards explored here are no larger.
 pub const PROCESSES: usize = 3;
-pub const VARIABLES: usize = 2;
+const VARIABLES: usize = 2;
 
 #[derive(Clone, Copy, PartialEq, Eq, Hash)]
 pub enum Doing {
@@ -50,14 +50,14 @@ fn must(holds: bool, rule: &'static str) -> Verdict {
 impl Onlooker {
     pub fn new() -> Onlooker {
         Onlooker {
-            value: [[0; MOST_SEGMENTS]; VARIABLES],
+            value: [NO_VALUES; VARIABLES],
             valid: [[false; VARIABLES]; PROCESSES],
             stored_since: [[None; VARIABLES]; PROCESSES],
             open: [[false; VARIABLES]; PROCESSES],
             doing: [Doing::Nothing; PROCESSES],
             steps: [0; PROCESSES],
-            told: [[0; MOST_SEGMENTS]; PROCESSES],
-            new: [[0; MOST_SEGMENTS]; PROCESSES],
+            told: [NO_VALUES; PROCESSES],
+            new: [NO_VALUES; PROCESSES],
             took_effect: [false; PROCESSES],
             stores: 0,
         }
@@ -191,8 +191,8 @@ impl Onlooker {
     fn ended(&mut self, p: usize) {
         self.doing[p] = Doing::Nothing;
         self.steps[p] = 0;
-        self.told[p] = [0; MOST_SEGMENTS];
-        self.new[p] = [0; MOST_SEGMENTS];
+        self.told[p] = NO_VALUES;
+        self.new[p] = NO_VALUES;
         self.took_effect[p] = false;
     }
 

@@ -22,7 +22,7 @@ pub struct Coverage {
     tags_met_again: u64,
     /// By refusal number.
     refused: [u64; 13],
-    refused_setups: [u64; 13],
+    refused_set_ups: [u64; 13],
     /// One bit for each size seen: kind, N, T, b, W.
     kinds: u64,
     processes: u64,
@@ -31,9 +31,13 @@ pub struct Coverage {
     segments: u64,
 }
 
-/// What one run's onlooker remembers between records.
-struct Onlooker {
+/// What is remembered of a run between its records.
+#[derive(Default)]
+struct Remembered {
+    /// What each process's last failed segment swap would have put in.
     announced: [u64; MOST_PROCESSES],
+    /// Successful stores to each variable, and how many there were at each
+    /// process's last load of it.
     stores: [u64; MOST_VARIABLES],
     loaded_at: [[u64; MOST_VARIABLES]; MOST_PROCESSES],
 }
@@ -47,7 +51,7 @@ impl Coverage {
         let mut board = match set_up(first, false) {
             Ok(board) => board,
             Err(refusal) => {
-                self.refused_setups[refusal.number() as usize] += 1;
+                self.refused_set_ups[refusal.number() as usize] += 1;
                 return;
             }
         };
@@ -69,11 +73,7 @@ impl Coverage {
     }
 
     fn watch_records(&mut self, records: &mut Records<&[u8]>, board: &mut Board) {
-        let mut onlooker = Onlooker {
-            announced: [0; MOST_PROCESSES],
-            stores: [0; MOST_VARIABLES],
-            loaded_at: [[0; MOST_VARIABLES]; MOST_PROCESSES],
-        };
+        let mut run = Remembered::default();
         while let Ok(Some(record)) = records.next_record() {
             let mover = record.fields().and_then(|fields| read_act(&fields, board.segment_count()));
             let before = match mover {
@@ -88,7 +88,7 @@ impl Coverage {
             };
             self.note_answer(answer);
             if let Some((process, place)) = before {
-                self.note_step(&mut onlooker, board, process, place, answer);
+                self.note_step(&mut run, board, process, place, answer);
             }
         }
     }
@@ -106,7 +106,7 @@ impl Coverage {
 
     fn note_step(
         &mut self,
-        onlooker: &mut Onlooker,
+        run: &mut Remembered,
         board: &Board,
         p: usize,
         before: Place,
@@ -114,24 +114,24 @@ impl Coverage {
     ) {
         match before {
             Place::LoadWord { var } | Place::LoadHeader { var } => {
-                onlooker.loaded_at[p][var] = onlooker.stores[var];
+                run.loaded_at[p][var] = run.stores[var];
             }
             Place::ValidateWord { var } | Place::ValidateHeader { var } => {
                 if answer == Answer::Yes {
-                    self.note_old_tag(onlooker, p, var);
+                    self.note_old_tag(run, p, var);
                 }
             }
             Place::SwapHeader { .. } if answer == Answer::No => self.failed_header_swaps += 1,
             Place::SwapWord { .. } if answer == Answer::No => {}
             Place::SwapWord { var } | Place::SwapHeader { var, .. } => {
-                self.note_store(onlooker, board, p, var);
+                self.note_store(run, board, p, var);
             }
             Place::Copy { copy, access } => {
                 if let Access::ReadHeader { .. } = access {
                     let cut_short = !copy.gathers && board.first_word(copy.var) != copy.header;
                     self.stores_cut_short += u64::from(cut_short);
                 } else {
-                    self.note_segment(onlooker, p, access, copy.gathers, board.process(p).place);
+                    self.note_segment(run, p, access, copy.gathers, board.process(p).place);
                 }
             }
             Place::Idle | Place::StoreHeader { .. } | Place::Announce { .. } => {}
@@ -139,22 +139,22 @@ impl Coverage {
     }
 
     /// A successful swap: the new tag is 0 where the tags have wrapped.
-    fn note_store(&mut self, onlooker: &mut Onlooker, board: &Board, p: usize, var: usize) {
-        self.note_old_tag(onlooker, p, var);
-        onlooker.stores[var] += 1;
+    fn note_store(&mut self, run: &mut Remembered, board: &Board, p: usize, var: usize) {
+        self.note_old_tag(run, p, var);
+        run.stores[var] += 1;
         let tag = board.layout().tag(board.first_word(var));
         self.tag_wraps += u64::from(tag == 0);
     }
 
     /// A yes although others stored since the load: past demand 3's premise.
-    fn note_old_tag(&mut self, onlooker: &Onlooker, p: usize, var: usize) {
-        let again = onlooker.loaded_at[p][var] != onlooker.stores[var];
+    fn note_old_tag(&mut self, run: &Remembered, p: usize, var: usize) {
+        let again = run.loaded_at[p][var] != run.stores[var];
         self.tags_met_again += u64::from(again);
     }
 
     fn note_segment(
         &mut self,
-        onlooker: &mut Onlooker,
+        run: &mut Remembered,
         p: usize,
         access: Access,
         gathers: bool,
@@ -166,12 +166,12 @@ impl Coverage {
         match (access, after) {
             (Access::SwapSegment { announced, .. }, Access::ReadSegmentAgain) => {
                 self.failed_segment_swaps += 1;
-                onlooker.announced[p] = announced;
+                run.announced[p] = announced;
             }
             (Access::SwapSegment { .. }, _) => self.helping_swaps += u64::from(gathers),
             (Access::ReadSegmentAgain, Access::ReadHeader { value }) => {
                 self.second_reads += 1;
-                self.overwritten_rows += u64::from(value != onlooker.announced[p]);
+                self.overwritten_rows += u64::from(value != run.announced[p]);
             }
             _ => {}
         }
@@ -199,7 +199,7 @@ impl Coverage {
             counts.push((format!("refused {number}"), self.refused[number]));
         }
         for number in [1, 10, 11] {
-            counts.push((format!("set-up refused {number}"), self.refused_setups[number]));
+            counts.push((format!("set-up refused {number}"), self.refused_set_ups[number]));
         }
         counts
     }

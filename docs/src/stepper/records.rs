@@ -1,12 +1,11 @@
-//! Records as RFC 4180 and document 01 have them, and what their fields say.
+//! Records as RFC 4180 and document 01 have them: the input is cut into records,
+//! each ending at its next CR LF, and a record into its seven fields.
 
-use crate::board::{Call, Kind, Refusal, Settings, Values, MOST_SEGMENTS};
+use crate::call::Refusal;
 use std::io::{self, Read};
 
-// ---------------------------------------------------------------- Records
-
-pub const MOST_RECORD_BYTES: usize = 512;
-pub const FIELDS: usize = 7;
+const MOST_RECORD_BYTES: usize = 512;
+const FIELDS: usize = 7;
 /// Read and written so much at a time.
 pub const BUFFER_BYTES: usize = 64 * 1024;
 
@@ -48,8 +47,7 @@ impl<'a> Record<'a> {
     }
 }
 
-/// Cuts the input into records, each ending at its next CR LF, in constant
-/// memory however long a record is.
+/// Takes constant memory however long a record is.
 pub struct Records<R> {
     input: R,
     buffer: Vec<u8>,
@@ -151,98 +149,4 @@ fn find_pair(bytes: &[u8], from: usize) -> Option<usize> {
         }
         from = at + 1;
     }
-}
-
-// ---------------------------------------------------------------- Fields
-
-/// Decimal, no sign, no leading zero but 0 itself, below 2^64.
-pub fn read_number(field: &[u8]) -> Result<u64, Refusal> {
-    if field.is_empty() || (field[0] == b'0' && field.len() > 1) {
-        return Err(Refusal::Field);
-    }
-    let mut number = 0u64;
-    for &byte in field {
-        if !byte.is_ascii_digit() {
-            return Err(Refusal::Field);
-        }
-        let shifted = number.checked_mul(10).ok_or(Refusal::Field)?;
-        number = shifted.checked_add(u64::from(byte - b'0')).ok_or(Refusal::Field)?;
-    }
-    Ok(number)
-}
-
-fn all_blank(fields: &[&[u8]]) -> Result<(), Refusal> {
-    if fields.iter().all(|field| field.is_empty()) {
-        Ok(())
-    } else {
-        Err(Refusal::Field)
-    }
-}
-
-/// N, kind, T, b, W, two blanks. Every field is read before a size is judged.
-pub fn read_settings(fields: &Fields) -> Result<Settings, Refusal> {
-    let kind = match fields[1] {
-        b"one" => Kind::One,
-        b"many" => Kind::Many,
-        _ => return Err(Refusal::Field),
-    };
-    all_blank(&fields[5..])?;
-    Ok(Settings {
-        kind,
-        processes: read_number(fields[0])?,
-        variables: read_number(fields[2])?,
-        tag_bits: read_number(fields[3])?,
-        segments: read_number(fields[4])?,
-    })
-}
-
-#[derive(Clone, Copy, PartialEq, Eq, Debug)]
-pub enum Act {
-    Begin(Call, Values),
-    Step,
-}
-
-impl Act {
-    pub fn name(self) -> &'static str {
-        match self {
-            Act::Begin(Call::Load(_), _) => "LL",
-            Act::Begin(Call::Validate(_), _) => "VL",
-            Act::Begin(Call::Store(_), _) => "SC",
-            Act::Step => "step",
-        }
-    }
-}
-
-/// Process, act, variable, four values: each there exactly if the act needs it.
-pub fn read_act(fields: &Fields, segments: usize) -> Result<(u64, Act), Refusal> {
-    let process = read_number(fields[0])?;
-    let act = match fields[1] {
-        b"step" => {
-            all_blank(&fields[2..])?;
-            Act::Step
-        }
-        b"LL" => {
-            all_blank(&fields[3..])?;
-            Act::Begin(Call::Load(read_number(fields[2])?), [0; MOST_SEGMENTS])
-        }
-        b"VL" => {
-            all_blank(&fields[3..])?;
-            Act::Begin(Call::Validate(read_number(fields[2])?), [0; MOST_SEGMENTS])
-        }
-        b"SC" => {
-            let values = read_values(&fields[3..], segments)?;
-            Act::Begin(Call::Store(read_number(fields[2])?), values)
-        }
-        _ => return Err(Refusal::Field),
-    };
-    Ok((process, act))
-}
-
-fn read_values(fields: &[&[u8]], segments: usize) -> Result<Values, Refusal> {
-    let mut values = [0; MOST_SEGMENTS];
-    for (value, field) in values.iter_mut().zip(&fields[..segments]) {
-        *value = read_number(field)?;
-    }
-    all_blank(&fields[segments..])?;
-    Ok(values)
 }

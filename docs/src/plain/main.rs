@@ -1,4 +1,4 @@
-//! The program: a schedule on standard input, the printout on standard output.
+//! The plain program: a schedule on standard input, the printout on standard output.
 //!
 //! Without an argument, or with `--check-form`, every begin, step and open
 //! count first checks the good form of the whole board, as document 01's entry
