@@ -30,7 +30,7 @@ use Rattle.printout.specs.declared.Open.{Open}
 use Rattle.printout.specs.declared.Open.the-variants.{Blank, Count}
 use Rattle.answers.specs.Moves.{slotIn, slotOf, moveOf, processRow, rowBy, begins, steps}
 use Rattle.answers.specs.Order.{InOrder}
-use Rattle.answers.specs.Run.{Run, Told, actOf, openAfter, stateOf, eventRow, eventTold, nobodysRow, byEntry}
+use Rattle.answers.specs.Run.{Run, Told, eventAct, openAfter, stateOf, numberedRow, eventTold, nobodysRow, byEntry}
 use Rattle.answers.specs.declared.Stage.the-variants.{Running}
 use Rattle.answers.proofs.OneProcess.{all-sized, one-of, none-of, begun, not-begun, took, not-took}
 
@@ -102,33 +102,33 @@ module _ (run : Run) (o : InOrder (run .board) (run .words)) where
   -- an event of a process of the board
   mine-told : (event : Event) (m : Moved × List ℕ) → ltb (processOf event) (run .board .settings .n) ≡ true
       → entry event (stateOf run) ≡ stepped (run .board) (processOf event) m
-      → eventTold run event ≡ toldAt (run .count + 1) (run .board .settings) (processOf event) (actOf event) (run .board) (processOf event) m
-  unfolding eventTold eventRow
+      → eventTold run event ≡ toldAt (run .count + 1) (run .board .settings) (processOf event) (eventAct event) (run .board) (processOf event) m
+  unfolding eventTold numberedRow
   mine-told event m mine e =
       let me = processOf event in
       let after-order = order-after event (stateOf run) o in
       let order : InOrder (putProcess (run .board) me (m .0 .process)) (m .1) =
       subst (λ (r : Answered × List ℕ). InOrder (r .0 .board) (r .1)) e after-order in
       let count = count-mine (run .board) me (m .0 .process) (m .1) order mine (in-range me mine) in
-      ap (toldBy (run .count + 1) me (actOf event) (run .board .settings .w)) e
+      ap (toldBy (run .count + 1) me (eventAct event) (run .board .settings .w)) e
       ∙ ap (λ (x : Open). record {
-        printed = rowOf (record { number = run .count + 1; who = ProcessAt me (actOf event); answer = m .0 .answer; «open» = x; w = run .board .settings .w; values = m .0 .values });
+        printed = rowOf (record { number = run .count + 1; who = ProcessAt me (eventAct event); answer = m .0 .answer; «open» = x; w = run .board .settings .w; values = m .0 .values });
         run = record { stage = Running; board = putProcess (run .board) me (m .0 .process); words = m .1; count = run .count + 1 };
       }) (count ∙ ap (λ (t : Bool). cond t (Count (openCount (m .0 .process .opened) (run .board .settings .t))) Blank) (sym mine))
 
   -- an event of a process that the board has not
   past-told : (event : Event) (m : Moved × List ℕ) → ltb (processOf event) (run .board .settings .n) ≡ false
       → entry event (stateOf run) ≡ stepped (run .board) 0 m
-      → eventTold run event ≡ toldAt (run .count + 1) (run .board .settings) (processOf event) (actOf event) (run .board) 0 m
-  unfolding eventTold eventRow
+      → eventTold run event ≡ toldAt (run .count + 1) (run .board .settings) (processOf event) (eventAct event) (run .board) 0 m
+  unfolding eventTold numberedRow
   past-told event m past e =
       let me = processOf event in
       let order : InOrder (putProcess (run .board) 0 (m .0 .process)) (m .1) =
       subst (λ (r : Answered × List ℕ). InOrder (r .0 .board) (r .1)) e (order-after event (stateOf run) o) in
       let count = count-past (putProcess (run .board) 0 (m .0 .process)) me (m .1) order past in
-      ap (toldBy (run .count + 1) me (actOf event) (run .board .settings .w)) e
+      ap (toldBy (run .count + 1) me (eventAct event) (run .board .settings .w)) e
       ∙ ap (λ (x : Open). record {
-        printed = rowOf (record { number = run .count + 1; who = ProcessAt me (actOf event); answer = m .0 .answer; «open» = x; w = run .board .settings .w; values = m .0 .values });
+        printed = rowOf (record { number = run .count + 1; who = ProcessAt me (eventAct event); answer = m .0 .answer; «open» = x; w = run .board .settings .w; values = m .0 .values });
         run = record { stage = Running; board = putProcess (run .board) 0 (m .0 .process); words = m .1; count = run .count + 1 };
       }) (count ∙ ap (λ (t : Bool). cond t (Count (openCount (m .0 .process .opened) (run .board .settings .t))) Blank) (sym past))
 
@@ -139,12 +139,12 @@ module _ (run : Run) (o : InOrder (run .board) (run .words)) where
       → (ltb (processOf event) (run .board .settings .n) ≡ false
       → entry event (stateOf run) ≡ stepped (run .board) 0 (m (processAt (run .board) 0)))
       → eventTold run event
-      ≡ toldAt (run .count + 1) (run .board .settings) (processOf event) (actOf event) (run .board) (slotIn (processOf event) (run .board .settings .n))
+      ≡ toldAt (run .count + 1) (run .board .settings) (processOf event) (eventAct event) (run .board) (slotIn (processOf event) (run .board .settings .n))
       (m (processAt (run .board) (slotIn (processOf event) (run .board .settings .n))))
   slot-told event m mine past = go (ltb (processOf event) (run .board .settings .n)) refl
     where
       at : ℕ → Told
-      at i = toldAt (run .count + 1) (run .board .settings) (processOf event) (actOf event) (run .board) i (m (processAt (run .board) i))
+      at i = toldAt (run .count + 1) (run .board .settings) (processOf event) (eventAct event) (run .board) i (m (processAt (run .board) i))
 
       go : (t : Bool) → ltb (processOf event) (run .board .settings .n) ≡ t → eventTold run event ≡ at (cond t (processOf event) 0)
       go true e = mine-told event (m (processAt (run .board) (processOf event))) e (mine e)

@@ -12,8 +12,8 @@ use Rattle.fields.specs.Decimal as decimals
 use Rattle.printout.specs.Row as row
 use Rattle.answers.specs.Listing.{Listing}
 use Rattle.answers.specs.Records.{recordsFrom}
-use Rattle.answers.specs.Run.{setUpTold, eventRow, eventTold, scheduleTold, recordTold, rowsOf, printoutOf}
+use Rattle.answers.specs.Run.{setUpTold, numberedRow, eventTold, scheduleTold, recordTold, rowsOf, printoutOf}
 
 pub holds : Listing
-unfolding rules record-form.closed record-form.bodyLength record-form.bodyOf record-form.noStray record-form.commas record-form.inForm fields.upToComma fields.pastComma fields.partOf fields.fieldOf number.allDigits number.zeroLeads number.valueFrom number.numberCase number.numberOf blanks.blanks blanks.blankFrom record-words.same record-words.actOf record-words.kindOf setup.settingsOf schedule.valuesInForm schedule.valuesOf schedule.valuesRead schedule.stepOf schedule.callOf schedule.scheduleOf decimals.decimalIn row.rowOf recordsFrom setUpTold eventRow eventTold scheduleTold recordTold rowsOf printoutOf
+unfolding rules record-form.closed record-form.bodyLength record-form.bodyOf record-form.noStray record-form.commas record-form.inForm fields.upToComma fields.pastComma fields.partOf fields.fieldOf number.allDigits number.zeroLeads number.valueFrom number.numberCase number.numberOf blanks.blanks blanks.blankFrom record-words.same record-words.actOf record-words.kindOf setup.settingsOf schedule.valuesInForm schedule.valuesOf schedule.valuesRead schedule.stepOf schedule.callOf schedule.scheduleOf decimals.decimalIn row.rowOf recordsFrom setUpTold numberedRow eventTold scheduleTold recordTold rowsOf printoutOf
 holds = refl

@@ -1,4 +1,4 @@
--- What answering a record leaves: the session, or the one process, the words, and the row after what the output holds.
+-- What answering a record leaves: the one process, the words, and the row after what the output holds.
 use Prim.Native.Nat.{ℕ, _+_}
 use mathlib.Core.Path.{_≡_}
 use mathlib.Core.List.{List}

@@ -6,9 +6,9 @@ use lib.Dec.{ltb}
 use lib.ListN.{replicate}
 use Rattle.word.specs.declared.Refusal.{Refusal}
 use Rattle.word.specs.declared.Refusal.the-variants.{TooManyRecords}
-use Rattle.rules.specs.Entry.{blankBoard, setUpRule, openCountRule}
+use Rattle.rules.specs.Entry.{blankBoard, setUpRule}
 use Rattle.rules.specs.Processes.{noValues}
-use Rattle.rules.specs.Runs.{State, Event, begin, step, processOf, entry, after}
+use Rattle.rules.specs.Runs.{State, Event, begin, step, processOf, entry, after, eventRow}
 use Rattle.rules.specs.declared.Answer.the-variants.{Refused as RefusedAnswer}
 use Rattle.rules.specs.declared.Board.{Board}
 use Rattle.rules.specs.declared.Call.{Call}
@@ -80,9 +80,9 @@ callAct (Load x) = LL
 callAct (Validate x) = VL
 callAct (Store x) = SC
 
-abbrev pub actOf : Event → Act
-actOf (begin me call values) = callAct call
-actOf (step me) = TakesStep
+abbrev pub eventAct : Event → Act
+eventAct (begin me call values) = callAct call
+eventAct (step me) = TakesStep
 
 -- after 4 open is blank
 abbrev pub openAfter : OpenCount → OpenField
@@ -93,13 +93,13 @@ abbrev pub stateOf : Run → State
 stateOf run = record { board = run .board; words = run .words }
 
 -- a begin or a step: the process and the act, the answer, the open count after the record, and the values
-unfoldable pub eventRow : ℕ → Event → State → Row
-eventRow number event state =
+unfoldable pub numberedRow : ℕ → Event → State → Row
+numberedRow number event state =
     record {
       number = number;
-      who = Process (processOf event) (actOf event);
-      answer = entry event state .0 .answer;
-      «open» = openAfter (openCountRule (after event state .board) (processOf event) (after event state .words));
+      who = Process (processOf event) (eventAct event);
+      answer = eventRow event state .answer;
+      «open» = openAfter (eventRow event state .open');
       w = state .board .settings .w;
       values = entry event state .0 .values;
     }
@@ -107,7 +107,7 @@ eventRow number event state =
 unfoldable pub eventTold : Run → Event → Told
 eventTold run event =
     record {
-      printed = rowOf (eventRow (run .count + 1) event (stateOf run));
+      printed = rowOf (numberedRow (run .count + 1) event (stateOf run));
       run =
           record {
             stage = Running;

@@ -3,8 +3,7 @@
 ghost use mathlib.Core.Path.{_≡_};
 ghost use mathlib.Core.List.{List};
 ghost use Prim.Native.Nat.{ℕ, _<_};
-ghost use Rattle.calls.specs.OneProcess.{laidBack};
-ghost use Rattle.rules.specs.Entry.{refusing, beginRule, stepRule, openCountRule};
+ghost use Rattle.rules.specs.Entry.{refusing, laidBack, beginRule, stepRule, openCountRule};
 ghost use Rattle.rules.specs.declared.Answered.{Answered};
 use calls::begin_process;
 use calls::sequences_open;

@@ -2,7 +2,7 @@
 use mathlib.Core.Path.{_≡_, refl, sym, ap}
 use mathlib.Core.List.{List}
 use Prim.Native.Nat.{ℕ}
-use Rattle.rules.specs.Entry.{beginBy, beginRule, refusing}
+use Rattle.rules.specs.Entry.{beginBy, beginRule, laidBack, refusing}
 use Rattle.rules.specs.Processes.{processAt}
 use Rattle.rules.specs.Refusals.{processCheck, callCheck, beginCheck}
 use Rattle.rules.specs.declared.Board.{Board}
@@ -10,7 +10,7 @@ use Rattle.rules.specs.declared.Call.{Call}
 use Rattle.rules.specs.declared.Check.{Check}
 use Rattle.rules.specs.declared.Check.the-variants.{Fine, Refused}
 use Rattle.rules.proofs.Refusals.OneProcess.{same-board}
-use Rattle.calls.specs.OneProcess.{beginProcessBy, beginProcessRule, laidBack}
+use Rattle.calls.specs.OneProcess.{beginProcessBy, beginProcessRule}
 
 module _ (board : Board) (me : ℕ) (call : Call) (values words : List ℕ) where
   pub begin-served : processCheck board me words ≡ Fine

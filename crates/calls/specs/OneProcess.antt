@@ -1,11 +1,9 @@
 -- What a begin makes of one process, of a board that can be served. What a step makes of it is the rules' processStep.
 use mathlib.Core.List.{List}
 use Prim.Native.Nat.{ℕ}
-use Rattle.rules.specs.Processes.{noValues, putProcess}
+use Rattle.rules.specs.Processes.{noValues}
 use Rattle.rules.specs.Refusals.{callCheck}
 use Rattle.rules.specs.Steps.{beginning}
-use Rattle.rules.specs.declared.Answered.{Answered}
-use Rattle.rules.specs.declared.Board.{Board}
 use Rattle.rules.specs.declared.Answer.the-variants.{Begun, Refused as AnswerRefused}
 use Rattle.rules.specs.declared.Call.{Call}
 use Rattle.rules.specs.declared.Check.{Check}
@@ -22,7 +20,3 @@ beginProcessBy (Refused refusal) s p call values = record { process = p; answer 
 -- 5 to 8, and the call's beginning
 unfoldable pub beginProcessRule : Settings → Process → Call → List ℕ → Moved
 beginProcessRule s p call values = beginProcessBy (callCheck s p call values) s p call values
-
--- a process that was moved is laid back into its board, with the answer and its values; the others stay
-abbrev pub laidBack : Board → ℕ → Moved → Answered
-laidBack board me moved = record { board = putProcess board me (moved .process); answer = moved .answer; values = moved .values }

@@ -7,7 +7,7 @@ use mathlib.Core.List.{[]}
 use Rattle.rules.specs.Text.{ascii}
 use Rattle.fields.specs.Form.{closed, bodyLength, bodyOf, noStray, commas, inForm}
 use Rattle.fields.specs.Fields.{upToComma, pastComma, partOf, fieldOf}
-use Rattle.fields.specs.Number.{Told, Blank, LeadingZero, NotADigit, TooGreat, allDigits, zeroLeads, valueFrom, numberCase}
+use Rattle.fields.specs.Number.{Spells, Blank, LeadingZero, NotADigit, TooGreat, allDigits, zeroLeads, valueFrom, numberCase}
 use Rattle.fields.specs.Decimal.{decimalIn, decimal}
 
 -- seven fields, with and without the closing pair
@@ -40,8 +40,8 @@ unfolding fieldOf partOf upToComma pastComma bodyOf bodyLength closed
 fields-told = (refl, refl, refl)
 
 -- 0 is a number; nothing at all, 00 and 1a are none, and 2^64 is too great
-numbers-told : (numberCase (ascii "0") ≡ Told 0)
-    × (numberCase (ascii "65535") ≡ Told 65535)
+numbers-told : (numberCase (ascii "0") ≡ Spells 0)
+    × (numberCase (ascii "65535") ≡ Spells 65535)
     × (numberCase [] ≡ Blank)
     × (numberCase (ascii "00") ≡ LeadingZero)
     × (numberCase (ascii "1a") ≡ NotADigit)

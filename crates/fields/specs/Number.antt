@@ -10,7 +10,7 @@ use Rattle.fields.specs.declared.number.Number.the-variants.{Value, NotI
 
 -- what a field holds: a number, or why it holds none
 pub data NumberCase : Type 0 where
-  Told : ℕ → NumberCase
+  Spells : ℕ → NumberCase
   Blank : NumberCase
   LeadingZero : NumberCase
   NotADigit : NumberCase
@@ -33,7 +33,7 @@ valueFrom before [] = before
 valueFrom before (x ∷ xs) = valueFrom (before * 10 + (x - zeroDigit)) xs
 
 abbrev pub valueCase : ℕ → NumberCase
-valueCase n = cond (ltb n (2 ^ 64)) (Told n) TooGreat
+valueCase n = cond (ltb n (2 ^ 64)) (Spells n) TooGreat
 
 unfoldable pub numberCase : List ℕ → NumberCase
 numberCase s =
@@ -44,7 +44,7 @@ numberCase s =
 
 -- the answer does not tell the reasons apart
 abbrev pub numberIn : NumberCase → Number
-numberIn (Told n) = Value n
+numberIn (Spells n) = Value n
 numberIn Blank = NotInForm
 numberIn LeadingZero = NotInForm
 numberIn NotADigit = NotInForm

@@ -58,7 +58,7 @@ fn is_stray(byte: u8) -> bool
 }
 
 // Whether a body holds nothing stray and one comma fewer than fields.
-fn has_seven_fields(inside: &[u8]) -> bool
+fn body_in_form(inside: &[u8]) -> bool
     ensures { λ r. ⌜ r ≡ noStray (now (inside .entry)) && eqb (commas (now (inside .entry)) + 1) 7 ⌝ }
 {
     let mut found: usize = 0;
@@ -83,5 +83,5 @@ pub fn in_form(bytes: &[u8]) -> bool
     if bytes.len() > MOST_BYTES {
         return false;
     }
-    has_seven_fields(body(bytes))
+    body_in_form(body(bytes))
 }

@@ -1,13 +1,14 @@
--- The printout of document 01 row by row, and the rows that it quotes, by computation from the definitions. Assumes nothing.
+-- The heading, the rows that document 01 quotes beside its listing, and rows of other kinds, by computation from the definitions.
+-- Assumes nothing.
 use mathlib.Core.Path.{_≡_, refl}
 use mathlib.Core.List.{List, [], _∷_}
 use Prim.Native.Nat.{ℕ, _^_, _-_}
 use lib.ListN.{length, replicate}
-use Rattle.word.specs.declared.Refusal.the-variants.{SettingOutsideSizes, NoSuchProcess, NoOpenSequence, TooManyRecords}
+use Rattle.word.specs.declared.Refusal.the-variants.{SettingOutsideSizes, NoSuchProcess, TooManyRecords}
 use Rattle.rules.specs.declared.Answer.{Answer}
-use Rattle.rules.specs.declared.Answer.the-variants.{Begun, Busy, Value, Witness, Yes, No, Refused}
+use Rattle.rules.specs.declared.Answer.the-variants.{Busy, Value, Witness, Refused}
 use Rattle.record.specs.declared.Act.{Act}
-use Rattle.record.specs.declared.Act.the-variants.{Load, Validate, Store, Step}
+use Rattle.record.specs.declared.Act.the-variants.{Step}
 use Rattle.rules.specs.Text.{ascii}
 use Rattle.writing.specs.Line.{line}
 use Rattle.fields.specs.Decimal.{decimalIn}
@@ -29,21 +30,6 @@ printed n p act answer count = rowOf (rowOn n (Process p act) answer (Count coun
 
 heading-line : heading ≡ line (ascii "no") (ascii "process" ∷ ascii "act" ∷ ascii "answer" ∷ ascii "open" ∷ ascii "v0" ∷ ascii "v1" ∷ ascii "v2" ∷ ascii "v3" ∷ [])
 heading-line = refl
-
--- the eleven rows of its listing
-listing-rows : (printed 1 0 Load Begun 0 ≡ ascii "1,0,LL,begun,0,,,,\r\n")
-    × (printed 2 0 Step Value 1 ≡ ascii "2,0,step,value,1,0,,,\r\n")
-    × (printed 3 1 Load Begun 0 ≡ ascii "3,1,LL,begun,0,,,,\r\n")
-    × (printed 4 1 Step Value 1 ≡ ascii "4,1,step,value,1,0,,,\r\n")
-    × (printed 5 0 Store Begun 1 ≡ ascii "5,0,SC,begun,1,,,,\r\n")
-    × (printed 6 0 Step Yes 0 ≡ ascii "6,0,step,yes,0,,,,\r\n")
-    × (printed 7 1 Validate Begun 1 ≡ ascii "7,1,VL,begun,1,,,,\r\n")
-    × (printed 8 1 Step No 1 ≡ ascii "8,1,step,no,1,,,,\r\n")
-    × (printed 9 1 Store Begun 1 ≡ ascii "9,1,SC,begun,1,,,,\r\n")
-    × (printed 10 1 Step No 0 ≡ ascii "10,1,step,no,0,,,,\r\n")
-    × (printed 11 1 Store (Refused NoOpenSequence) 0 ≡ ascii "11,1,SC,refused,0,7,,,\r\n")
-unfolding rowOf decimalIn
-listing-rows = (refl, refl, refl, refl, refl, refl, refl, refl, refl, refl, refl)
 
 -- a refused set-up, and the record after the 1,000,000th
 set-up-row : rowOf (rowOn 0 SetUp (Refused SettingOutsideSizes) Blank) ≡ ascii "0,,setup,refused,,1,,,\r\n"

@@ -8,7 +8,7 @@ use Rattle.rules.specs.declared.Answer.{Answer}
 use Rattle.rules.specs.declared.Answer.the-variants.{Begun, Busy, Value, Witness, Yes, No, Refused}
 use Rattle.record.specs.declared.Act.{Act}
 use Rattle.record.specs.declared.Act.the-variants.{Load, Validate, Store, Step}
-use Rattle.writing.specs.Line.{after, rest}
+use Rattle.writing.specs.Line.{afterComma, rest}
 use Rattle.record.specs.Words.{actWord}
 use Rattle.printout.specs.Row.{processField, actField, openField, valueField, valueFields, rowOf}
 use Rattle.rules.specs.Answers.{answerWord, numbersOf}
@@ -28,7 +28,7 @@ act-at-most Store = omega arith
 act-at-most Step = omega arith
 
 -- process and act: 20 digits and `step`, with two commas
-who-at-most : (who : Who) → length (after (processField who)) + length (after (actField who)) ≤ 26
+who-at-most : (who : Who) → length (afterComma (processField who)) + length (afterComma (actField who)) ≤ 26
 who-at-most Nobody = omega arith
 who-at-most SetUp = omega arith
 who-at-most (Process process act) = omega (arith, short 20 process, act-at-most act)
@@ -44,7 +44,7 @@ value-at-most (suc k) (v ∷ numbers) = value-at-most k numbers
 
 -- the answer with its comma, the value fields and the line's end: `value` and 4 numbers of 20 digits
 answer-at-most : (answer : Answer) (w : ℕ) (values : List ℕ)
-    → length (after (answerWord answer)) + length (rest (valueFields (numbersOf answer w values))) ≤ 92
+    → length (afterComma (answerWord answer)) + length (rest (valueFields (numbersOf answer w values))) ≤ 92
 answer-at-most Value w values =
     let shown = take w values in
     omega (arith, length-values shown, value-at-most 0 shown, value-at-most 1 shown, value-at-most 2 shown, value-at-most 3 shown)
@@ -61,7 +61,7 @@ row-at-most row =
       arith,
       length-row row,
       short 20 (row .number),
-      length-append (after (processField (row .who))) (after (actField (row .who))),
+      length-append (afterComma (processField (row .who))) (afterComma (actField (row .who))),
       who-at-most (row .who),
       answer-at-most (row .answer) (row .w) (row .values),
       open-at-most (row .open),

@@ -10,7 +10,7 @@ use lib.Seq.{take-all}
 use borrow.Author.Tests.{leb-true, leb-false}
 use Rattle.fields.specs.Decimal.{decimal}
 use Rattle.rules.specs.Text.{ascii}
-use Rattle.writing.specs.Line.{after, rest}
+use Rattle.writing.specs.Line.{afterComma, rest}
 use Rattle.printout.specs.Row.{processField, actField, openField, valueField, valueFields, rowOf}
 use Rattle.rules.specs.Answers.{answerWord, numbersOf}
 use Rattle.printout.specs.declared.Row.{Row}
@@ -50,23 +50,23 @@ take-four w values h = either (leb w 4) refl
 
 -- the parts of a row that are put one after the other
 abbrev pub whoPart : Row → List ℕ
-whoPart row = after (processField (row .who)) ++ after (actField (row .who))
+whoPart row = afterComma (processField (row .who)) ++ afterComma (actField (row .who))
 
 abbrev pub numbersPart : Row → List ℕ
 numbersPart row = rest (valueFields (numbersOf (row .answer) (row .w) (row .values)))
 
 pub row-parts : (row : Row)
-    → decimal (row .number) ++ (whoPart row ++ (after (answerWord (row .answer)) ++ (after (openField (row .open)) ++ numbersPart row))) ≡ rowOf row
+    → decimal (row .number) ++ (whoPart row ++ (afterComma (answerWord (row .answer)) ++ (afterComma (openField (row .open)) ++ numbersPart row))) ≡ rowOf row
 unfolding rowOf
 row-parts row =
     ap (λ (bytes : List ℕ). decimal (row .number) ++ (ascii "," ++ bytes))
-    (append-assoc (processField (row .who)) (after (actField (row .who))) (after (answerWord (row .answer)) ++ (after (openField (row .open)) ++ numbersPart row)))
+    (append-assoc (processField (row .who)) (afterComma (actField (row .who))) (afterComma (answerWord (row .answer)) ++ (afterComma (openField (row .open)) ++ numbersPart row)))
 
 pub length-row : (row : Row)
     → length (rowOf row)
-    ≡ length (decimal (row .number)) + length (whoPart row) + length (after (answerWord (row .answer))) + length (after (openField (row .open)))
+    ≡ length (decimal (row .number)) + length (whoPart row) + length (afterComma (answerWord (row .answer))) + length (afterComma (openField (row .open)))
     + length (numbersPart row)
-length-row row = rw (← row-parts row) (five (decimal (row .number)) (whoPart row) (after (answerWord (row .answer))) (after (openField (row .open))) (numbersPart row))
+length-row row = rw (← row-parts row) (five (decimal (row .number)) (whoPart row) (afterComma (answerWord (row .answer))) (afterComma (openField (row .open))) (numbersPart row))
   where
     five : (a b c d e : List ℕ) → length (a ++ (b ++ (c ++ (d ++ e)))) ≡ length a + length b + length c + length d + length e
     five a b c d e = simp length-append (omega arith)

@@ -4,7 +4,7 @@ ghost use Prim.Native.Nat.{_+_, _≤_};
 ghost use lib.ListN.{length};
 ghost use Rattle.record.specs.Words.{actWord};
 ghost use Rattle.rules.specs.Answers.{answerWord};
-ghost use Rattle.writing.specs.Line.{after};
+ghost use Rattle.writing.specs.Line.{afterComma};
 ghost use Rattle.writing.specs.Put.{Put};
 ghost use Rattle.printout.specs.Row.{processField, actField, openField, rowOf};
 use super::Open;
@@ -18,8 +18,8 @@ use writing::put_decimal;
 use writing::put_number;
 
 fn put_act(act: Act, out: &mut [u8], at: usize) -> usize
-    requires { ⌜ at + length (after (actWord act)) ≤ length (now out) ⌝ }
-    ensures { λ r. ⌜ Put (now (out .entry)) at (after (actWord act)) (now (out .exit)) r ⌝ }
+    requires { ⌜ at + length (afterComma (actWord act)) ≤ length (now out) ⌝ }
+    ensures { λ r. ⌜ Put (now (out .entry)) at (afterComma (actWord act)) (now (out .exit)) r ⌝ }
 {
     match act {
         Act::Load => put(b",LL", out, at),
@@ -31,8 +31,8 @@ fn put_act(act: Act, out: &mut [u8], at: usize) -> usize
 
 // Process and act.
 fn put_who(who: Who, out: &mut [u8], at: usize) -> usize
-    requires { ⌜ at + length (after (processField who) ++ after (actField who)) ≤ length (now out) ⌝ }
-    ensures { λ r. ⌜ Put (now (out .entry)) at (after (processField who) ++ after (actField who)) (now (out .exit)) r ⌝ }
+    requires { ⌜ at + length (afterComma (processField who) ++ afterComma (actField who)) ≤ length (now out) ⌝ }
+    ensures { λ r. ⌜ Put (now (out .entry)) at (afterComma (processField who) ++ afterComma (actField who)) (now (out .exit)) r ⌝ }
 {
     match who {
         Who::Nobody => put(b",,", out, at),
@@ -45,8 +45,8 @@ fn put_who(who: Who, out: &mut [u8], at: usize) -> usize
 }
 
 fn put_answer(answer: Answer, out: &mut [u8], at: usize) -> usize
-    requires { ⌜ at + length (after (answerWord answer)) ≤ length (now out) ⌝ }
-    ensures { λ r. ⌜ Put (now (out .entry)) at (after (answerWord answer)) (now (out .exit)) r ⌝ }
+    requires { ⌜ at + length (afterComma (answerWord answer)) ≤ length (now out) ⌝ }
+    ensures { λ r. ⌜ Put (now (out .entry)) at (afterComma (answerWord answer)) (now (out .exit)) r ⌝ }
 {
     match answer {
         Answer::Begun => put(b",begun", out, at),
@@ -60,8 +60,8 @@ fn put_answer(answer: Answer, out: &mut [u8], at: usize) -> usize
 }
 
 fn put_open(open: Open, out: &mut [u8], at: usize) -> usize
-    requires { ⌜ at + length (after (openField «open»)) ≤ length (now out) ⌝ }
-    ensures { λ r. ⌜ Put (now (out .entry)) at (after (openField «open»)) (now (out .exit)) r ⌝ }
+    requires { ⌜ at + length (afterComma (openField «open»)) ≤ length (now out) ⌝ }
+    ensures { λ r. ⌜ Put (now (out .entry)) at (afterComma (openField «open»)) (now (out .exit)) r ⌝ }
 {
     match open {
         Open::Blank => put(b",", out, at),

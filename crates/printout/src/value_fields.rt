@@ -4,7 +4,7 @@ ghost use Prim.Native.Nat.{_+_, _≤_};
 ghost use lib.ListN.{length, take};
 ghost use Rattle.word.specs.Refusals.{number};
 ghost use Rattle.rules.specs.Answers.{numbersOf};
-ghost use Rattle.writing.specs.Line.{after, rest};
+ghost use Rattle.writing.specs.Line.{afterComma, rest};
 ghost use Rattle.writing.specs.Put.{Put};
 ghost use Rattle.printout.specs.Row.{valueField, valueFields};
 use record::at_most_four;
@@ -75,8 +75,8 @@ fn numbers_of(answer: Answer, w: usize, values: [u64; 4]) -> Numbers
 
 // Value field k.
 fn put_value(k: usize, numbers: &[u64], out: &mut [u8], at: usize) -> usize
-    requires { ⌜ at + length (after (valueField k (now numbers))) ≤ length (now out) ⌝ }
-    ensures { λ r. ⌜ Put (now (out .entry)) at (after (valueField k (now (numbers .entry)))) (now (out .exit)) r ⌝ }
+    requires { ⌜ at + length (afterComma (valueField k (now numbers))) ≤ length (now out) ⌝ }
+    ensures { λ r. ⌜ Put (now (out .entry)) at (afterComma (valueField k (now (numbers .entry)))) (now (out .exit)) r ⌝ }
 {
     if k < numbers.len() {
         put_number(numbers[k], out, at)

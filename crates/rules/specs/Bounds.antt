@@ -6,7 +6,6 @@ use Rattle.rules.specs.Types.{Settings}
 pub record Sized (s : Settings) : Type 0 where
   pub n-least : 1 ≤ s .n
   pub n-most : s .n ≤ 16
-  pub t-least : 1 ≤ s .t
   pub t-most : s .t ≤ 16
   pub b-least : 4 ≤ bits s
   pub b-most : bits s ≤ 48

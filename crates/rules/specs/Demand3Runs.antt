@@ -31,7 +31,7 @@ pub record Meets (s : Settings) (events : List Event) (me stores : ℕ) (a : Ans
   pub value : answered (turnOf s ready events me) 0 ≡ first
 
 -- after these events the step of `me` gives this answer to this call, at so many steps of its own
-pub record Takes (s : Settings) (events : List Event) (me : ℕ) (a : Answer) (call : Call) (steps : ℕ) : Type 0 where
+pub record TakesSteps (s : Settings) (events : List Event) (me : ℕ) (a : Answer) (call : Call) (steps : ℕ) : Type 0 where
   pub ready : setUpRule s (replicate 4 0) .0 .start ≡ Ready
   pub answers : answer (turnOf s ready events me) ≡ a
   pub took : ownSteps (start (turnOf s ready events me)) (step me ∷ turnOf s ready events me .events) me
@@ -87,7 +87,7 @@ pub record Demand3Runs : Type 0 where
   pub overtaken-meets : Meets many4 overtaken 1 14 (Witness 0) 0
   pub fourteenth-meets : Meets one4 fourteenth 0 14 Yes 0
   -- the step bounds are met: P7's load takes 1 + 5W, a store that another has helped takes 2 + 6W
-  pub slowest-load : Takes many4 p7Events 1 Value (Load 0) 6
-  pub slowest-store : Takes many4 helped 0 Yes (Store 0) 8
+  pub slowest-load : TakesSteps many4 p7Events 1 Value (Load 0) 6
+  pub slowest-store : TakesSteps many4 helped 0 Yes (Store 0) 8
   -- with 2^b - 1 stores demand 3 is false
   pub tight : AnswersRight FewButOne → ⊥

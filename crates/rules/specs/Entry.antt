@@ -8,7 +8,7 @@ use Rattle.rules.specs.Processes.{noValues, openCount, processAt, putPro
 use Rattle.rules.specs.Refusals.{sizesCheck, processCheck, beginCheck, stepCheck}
 use Rattle.rules.specs.Sizes.{wordsUsed}
 use Rattle.rules.specs.Steps.{beginning, processStep}
-use Rattle.rules.specs.Types.{Begun, AnswerRefused, Answered, Board, Call, Check, Fine, Refused, One, OpenCount, Open, CountRefused, Idle, Process, SetUp, Settings, Ready, StartRefused, Refusal}
+use Rattle.rules.specs.Types.{Begun, AnswerRefused, Answered, Board, Call, Check, Fine, Refused, One, OpenCount, Open, CountRefused, Idle, Moved, Process, SetUp, Settings, Ready, StartRefused, Refusal}
 
 -- a fresh board has every word and keep-word 0, every process idle and no sequence open
 abbrev pub freshProcess : Process
@@ -47,11 +47,12 @@ beginBy (Refused refusal) board me call values = refusing board refusal
 unfoldable pub beginRule : Board → ℕ → Call → List ℕ → List ℕ → Answered
 beginRule board me call values words = beginBy (beginCheck board me call values words) board me call values
 
+-- a process that was moved is laid back into its board, with the answer and its values; the others stay
+abbrev pub laidBack : Board → ℕ → Moved → Answered
+laidBack board me moved = record { board = putProcess board me (moved .process); answer = moved .answer; values = moved .values }
+
 abbrev pub stepped : Board → ℕ → Step → Answered × List ℕ
-stepped board me step = (
-  record { board = putProcess board me (step .0 .process); answer = step .0 .answer; values = step .0 .values },
-  step .1,
-)
+stepped board me step = (laidBack board me (step .0), step .1)
 
 abbrev pub stepBy : Check → Board → ℕ → List ℕ → Answered × List ℕ
 stepBy Fine board me words = stepped board me (processStep (board .settings) (processAt board me) me words)

@@ -34,14 +34,14 @@ unfoldable pub run : State → List Event → State
 run start [] = start
 run start (event ∷ events) = after event (run start events)
 
--- what a row of the printout tells of a record: the answer, the open count after it, and the numbers in its value fields
-pub record Row : Type 0 where
+-- what a row of the printout tells of an event: the answer, the open count after it, and the numbers in its value fields
+pub record EventRow : Type 0 where
   pub answer : Answer
   pub open' : OpenCount
   pub numbers : List ℕ
 
-abbrev pub rowOf : Event → State → Row
-rowOf event state =
+abbrev pub eventRow : Event → State → EventRow
+eventRow event state =
     record {
       answer = entry event state .0 .answer;
       open' = openCountRule (after event state .board) (processOf event) (after event state .words);
@@ -49,6 +49,6 @@ rowOf event state =
     }
 
 -- the rows of a schedule, whose first event stands first
-unfoldable pub rows : State → List Event → List Row
+unfoldable pub rows : State → List Event → List EventRow
 rows state [] = []
-rows state (event ∷ events) = rowOf event state ∷ rows (after event state) events
+rows state (event ∷ events) = eventRow event state ∷ rows (after event state) events

@@ -8,7 +8,7 @@ use Rattle.word.specs.Word.{nextTag, previousTag}
 use Rattle.word.specs.declared.Packed.the-variants.{Word}
 use Rattle.rules.specs.Entry.{setUpRule}
 use Rattle.rules.specs.Processes.{noValues}
-use Rattle.rules.specs.Runs.{State, Event, begin, step, fresh, Row, rows}
+use Rattle.rules.specs.Runs.{State, Event, begin, step, fresh, EventRow, rows}
 use Rattle.rules.specs.Types.{SettingOutsideSizes, NoOpenSequence, ValueTooGreat, ProcessIdle, Answer, Begun, Busy, Value, Witness, Yes, No, AnswerRefused, Load, Validate, Store, Kind, One, Many, Open, Settings, Start, Ready, StartRefused}
 
 -- N, kind, T, b, W, as in a set-up record; lent are the most words that a board uses
@@ -21,8 +21,8 @@ lent = replicate 144 0
 abbrev pub board : ℕ → Kind → ℕ → ℕ → ℕ → State
 board n kind t b w = fresh (settings n kind t b w) lent
 
-abbrev pub started : ℕ → Kind → ℕ → ℕ → ℕ → Start
-started n kind t b w = setUpRule (settings n kind t b w) lent .0 .start
+abbrev pub startOf : ℕ → Kind → ℕ → ℕ → ℕ → Start
+startOf n kind t b w = setUpRule (settings n kind t b w) lent .0 .start
 
 -- acts, as in a schedule record
 abbrev pub ll : ℕ → ℕ → Event
@@ -35,13 +35,13 @@ abbrev pub sc : ℕ → ℕ → ℕ → Event
 sc p x v = begin p (Store x) (v ∷ 0 ∷ 0 ∷ 0 ∷ [])
 
 -- rows, as in the printout
-abbrev pub row : Answer → ℕ → List ℕ → Row
+abbrev pub row : Answer → ℕ → List ℕ → EventRow
 row answer open' numbers = record { answer = answer; open' = Open open'; numbers = numbers }
 
-abbrev pub begun : ℕ → Row
+abbrev pub begun : ℕ → EventRow
 begun open' = row Begun open' []
 
-abbrev pub busy : ℕ → Row
+abbrev pub busy : ℕ → EventRow
 busy open' = row Busy open' []
 
 abbrev pub times : ℕ → List Event → List Event
@@ -49,7 +49,7 @@ times zero events = []
 times (suc n) events = events ++ times n events
 
 -- the last row of a schedule
-abbrev pub last : List Row → Row
+abbrev pub last : List EventRow → EventRow
 last [] = row Busy 0 []
 last (r ∷ []) = r
 last (r ∷ q ∷ rest) = last (q ∷ rest)
@@ -87,8 +87,8 @@ pub record Schedules : Type 0 where
   pub p5 : rows (board 2 One 1 48 1) (vl 0 0 ∷ step 0 ∷ [])
       ≡ row (AnswerRefused NoOpenSequence) 0 (7 ∷ []) ∷ row (AnswerRefused ProcessIdle) 0 (9 ∷ []) ∷ []
   pub p6 :
-      (started 2 One 1 3 1 ≡ StartRefused SettingOutsideSizes) × (started 2 One 1 49 1 ≡ StartRefused SettingOutsideSizes)
-      × (started 2 One 1 4 1 ≡ Ready) × (started 2 One 1 48 1 ≡ Ready)
+      (startOf 2 One 1 3 1 ≡ StartRefused SettingOutsideSizes) × (startOf 2 One 1 49 1 ≡ StartRefused SettingOutsideSizes)
+      × (startOf 2 One 1 4 1 ≡ Ready) × (startOf 2 One 1 48 1 ≡ Ready)
   -- process 1 answers 5 at its sixth step
   pub p7 : rows small (p7Events ++ (step 1 ∷ []))
       ≡ begun 0 ∷ busy 1 ∷ busy 1 ∷ row Value 1 (0 ∷ []) ∷ begun 1 ∷ busy 1 ∷ busy 1 ∷ busy 1

@@ -4,13 +4,13 @@ use mathlib.Core.Path.{_≡_, refl, sym, ap, _∙_, subst}
 use mathlib.Core.Bool.{Bool, true, false, cond}
 use mathlib.Core.List.{List, [], _∷_}
 use native.Mathlib.Omega.{arith}
-use borrow.Author.Tests.{ltb-false, leb-true, le-leb}
-use lib.Dec.{eqb, leb}
+use borrow.Author.Tests.{ltb-false, le-leb}
+use lib.Dec.{eqb}
 use lib.ListN.{length, replicate}
 use lib.Seq.{sets, length-sets}
 use Rattle.printout.specs.Row.{heading}
 use Rattle.printout.specs.Writing.{Written, putHeading, longestRow}
-use Rattle.schedule.specs.Feeding.{Feeding, feeding, sessionOf, holding, telling, answered, gathering, takeIn, takeByte, isFull, sameStage, feedOf, finishIn, finishOf}
+use Rattle.schedule.specs.Feeding.{Feeding, feeding, sessionOf, holding, telling, recordAnswered, byteGathered, takeIn, takeByte, isFull, sameStage, feedOf, finishIn, finishOf}
 use Rattle.schedule.specs.Gathering.{lineLength, bytesOf, put, closes}
 use Rattle.schedule.specs.Ready.{Ready}
 use Rattle.answers.specs.Run.{beginningRun, recordTold}
@@ -29,24 +29,24 @@ Within f = f .len ≤ length (f .out)
 abbrev pub Grown : Feeding → Feeding → Type 0
 Grown f after = Within after × (f .len ≤ after .len)
 
-answered-grown : (f : Feeding) → isFull f ≡ false → Grown f (answered f)
+answered-grown : (f : Feeding) → isFull f ≡ false → Grown f (recordAnswered f)
 unfolding isFull telling
 answered-grown f room =
     let free : longestRow ≤ length (f .out) - f .len = ltb-false _ _ room in
     let short = told-short (f .run) (bytesOf (f .held)) in
     (omega (arith, length-sets (f .out) (f .len) (recordTold (f .run) (bytesOf (f .held)) .printed)), omega arith)
 
-gathering-grown : (f : Feeding) (byte : ℕ) → isFull f ≡ false → Within f → Grown f (gathering f byte)
+gathered-grown : (f : Feeding) (byte : ℕ) → isFull f ≡ false → Within f → Grown f (byteGathered f byte)
 unfolding isFull
-gathering-grown f byte room within = go (closes (f .held) byte)
+gathered-grown f byte room within = go (closes (f .held) byte)
   where
-    go : (t : Bool) → Grown f (cond t (answered (holding f (put (f .held) byte))) (holding f (put (f .held) byte)))
+    go : (t : Bool) → Grown f (cond t (recordAnswered (holding f (put (f .held) byte))) (holding f (put (f .held) byte)))
     go true = answered-grown (holding f (put (f .held) byte)) room
     go false = (within, omega arith)
 
 taken-grown : (s : Stage) (f : Feeding) (byte : ℕ) → isFull f ≡ false → Within f → Grown f (takeIn s f byte)
-taken-grown Waiting f byte room within = gathering-grown f byte room within
-taken-grown Running f byte room within = gathering-grown f byte room within
+taken-grown Waiting f byte room within = gathered-grown f byte room within
+taken-grown Running f byte room within = gathered-grown f byte room within
 taken-grown Over f byte room within = (within, omega arith)
 
 grown-on : (f g h : Feeding) → Grown f g → Grown g h → Grown f h

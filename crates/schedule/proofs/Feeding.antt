@@ -5,7 +5,7 @@ use mathlib.Core.Path.{_≡_, refl, ap}
 use mathlib.Core.Bool.{Bool, true, false, cond}
 use mathlib.Core.List.{List, [], _∷_}
 use borrow.Author.Tests.{eq-eqb}
-use Rattle.schedule.specs.Feeding.{Feeding, holding, answered, gathering, takeIn, takeByte, isFull, stageNumber, sameStage, feedOf}
+use Rattle.schedule.specs.Feeding.{Feeding, holding, recordAnswered, byteGathered, takeIn, takeByte, isFull, stageNumber, sameStage, feedOf}
 use Rattle.schedule.specs.Gathering.{Gathered, put, closes, gatherOf}
 use Rattle.answers.specs.Run.{Run}
 use Rattle.answers.specs.declared.Stage.{Stage}
@@ -16,7 +16,7 @@ abbrev pub goesOn : Run → Feeding → List ℕ → Feeding × List ℕ
 goesOn run f left = cond (sameStage run (f .run)) (feedOf f left) (f, left)
 
 abbrev pub afterGathering : Feeding → Gathered → Feeding × List ℕ
-afterGathering f g = cond (g .closed) (goesOn (f .run) (answered (holding f (g .held))) (g .left)) (holding f (g .held), g .left)
+afterGathering f g = cond (g .closed) (goesOn (f .run) (recordAnswered (holding f (g .held))) (g .left)) (holding f (g .held), g .left)
 
 pub same-stage : (run : Run) → sameStage run run ≡ true
 unfolding sameStage
@@ -24,7 +24,7 @@ same-stage run = eq-eqb (stageNumber (run .stage)) (stageNumber (run .stage)) re
 
 -- the run is not over: each byte is gathered
 abbrev pub Reads : Stage → Type 0
-Reads s = (f : Feeding) (byte : ℕ) → takeIn s f byte ≡ gathering f byte
+Reads s = (f : Feeding) (byte : ℕ) → takeIn s f byte ≡ byteGathered f byte
 
 pub waiting-reads : Reads Waiting
 waiting-reads f byte = refl
@@ -43,7 +43,7 @@ feed-gather f (byte ∷ bytes) room reads =
     gathered = holding f (put (f .held) byte)
 
     go : (t : Bool) → feedOf gathered bytes ≡ afterGathering gathered (gatherOf (put (f .held) byte) bytes)
-        → goesOn (f .run) (cond t (answered gathered) gathered) bytes
+        → goesOn (f .run) (cond t (recordAnswered gathered) gathered) bytes
         ≡ afterGathering f (cond t (record { held = put (f .held) byte; left = bytes; closed = true }) (gatherOf (put (f .held) byte) bytes))
     go true ih = refl
     go false ih = rw (same-stage (f .run)) ih

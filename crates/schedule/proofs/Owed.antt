@@ -23,7 +23,7 @@ use Rattle.record.specs.declared.setup.SettingsRead.{SettingsRead}
 use Rattle.record.specs.declared.setup.SettingsRead.the-variants.{Read, Refused as SettingsRefused}
 use Rattle.printout.proofs.Longest.{row-at-most}
 use Rattle.printout.specs.Writing.{longestRow}
-use Rattle.schedule.specs.Feeding.{Feeding, holding, telling, answered, gathering, takeIn, takeByte, isFull}
+use Rattle.schedule.specs.Feeding.{Feeding, holding, telling, recordAnswered, byteGathered, takeIn, takeByte, isFull}
 use Rattle.schedule.specs.Gathering.{bytesOf, put, closes}
 use Rattle.answers.specs.Records.{recordsFrom}
 use Rattle.answers.specs.Run.{Run, Told, bySetUp, bySettings, setUpTold, eventTold, byEntry, nobodysRow, mostRecords, tooManyTold, scheduleTold, toldIn, recordTold, rowsOf}
@@ -103,7 +103,7 @@ module _ (written : List ℕ) (total : List ℕ → List ℕ) where
   -- a record that is answered
   answered-owes : (f : Feeding) (part : List ℕ) → isFull f ≡ false → Keeps (f .held) part
       → ((rest : List ℕ) → written ++ (output f ++ rowsOf (f .run) (part ∷ recordsFrom [] rest)) ≡ total rest)
-      → Owes written (answered f) total
+      → Owes written (recordAnswered f) total
   unfolding rowsOf telling
   answered-owes f part room kept owed =
       record {
@@ -121,9 +121,9 @@ module _ (written : List ℕ) (total : List ℕ → List ℕ) (f : Feeding) (byt
   next : Feeding
   next = holding f (put (f .held) byte)
 
-  gathering-owes : Owes written (gathering f byte) (λ rest. total (byte ∷ rest))
+  gathered-owes : Owes written (byteGathered f byte) (λ rest. total (byte ∷ rest))
   unfolding recordsFrom isFull next
-  gathering-owes = go (closes (f .held) byte) (closes-kept (f .held) (o .part) byte (o .kept))
+  gathered-owes = go (closes (f .held) byte) (closes-kept (f .held) (o .part) byte (o .kept))
     where
       more : List ℕ
       more = o .part ++ byte ∷ []
@@ -134,7 +134,7 @@ module _ (written : List ℕ) (total : List ℕ → List ℕ) (f : Feeding) (byt
       kept : Keeps (put (f .held) byte) more
       kept = put-kept (f .held) (o .part) byte (o .kept)
 
-      go : (t : Bool) → closed more ≡ t → Owes written (cond t (answered next) next) (λ rest. total (byte ∷ rest))
+      go : (t : Bool) → closed more ≡ t → Owes written (cond t (recordAnswered next) next) (λ rest. total (byte ∷ rest))
       go true e =
           answered-owes written (λ rest. total (byte ∷ rest)) next more room kept (λ rest. ap (rows rest) (sym e) ∙ o .owed (byte ∷ rest))
       go false e = record { part = more; kept = kept; owed = λ rest. ap (rows rest) (sym e) ∙ o .owed (byte ∷ rest) }
@@ -151,8 +151,8 @@ module _ (written : List ℕ) (total : List ℕ → List ℕ) (f : Feeding) (byt
       }
 
   taken-owes : (s : Stage) → f .run .stage ≡ s → Owes written (takeIn s f byte) (λ rest. total (byte ∷ rest))
-  taken-owes Waiting e = gathering-owes
-  taken-owes Running e = gathering-owes
+  taken-owes Waiting e = gathered-owes
+  taken-owes Running e = gathered-owes
   taken-owes Over e = passing-owes e
 
   pub byte-owes : Owes written (takeByte f byte) (λ rest. total (byte ∷ rest))

@@ -11,15 +11,16 @@ use lib.ListN.{length, drop, length-drop, drop-of-length-le}
 use Rattle.rules.specs.declared.Board.{Board}
 use Rattle.printout.specs.Writing.{longestRow}
 use Rattle.printout.specs.declared.Row.{Row}
-use Rattle.schedule.specs.Telling.{Ends}
+use Rattle.schedule.specs.Telling.{EndsWithRow}
 use Rattle.schedule.specs.Feeding.{Feeding, feeding, isFull, feedOf}
 use Rattle.schedule.specs.Gathering.{Held, Gathered, lineLength, put, closes, gatherOf}
 use Rattle.answers.specs.Order.{InOrder}
 use Rattle.schedule.specs.Ready.{Ready}
 use Rattle.schedule.specs.declared.Session.{Session}
 use Rattle.answers.specs.declared.Stage.{Stage}
-use Rattle.answers.specs.declared.Stage.the-variants.{Running, Over}
+use Rattle.answers.specs.declared.Stage.the-variants.{Running}
 use Rattle.schedule.proofs.RunningOn.{running, opened}
+use Rattle.schedule.proofs.Tellings.{over-order}
 
 -- no more is left than there was, and less where a byte was there
 left-most : (h : Held) (bytes : List ℕ) → length (gatherOf h bytes .left) ≤ length bytes
@@ -99,10 +100,7 @@ pub running-ready : (board : Board) (count held : ℕ) (cr : Bool) (line words :
     → InOrder board words → held ≤ lineLength → length line ≡ lineLength → Ready (running board count held cr) line words
 running-ready board count held cr line words o h l = record { order = λ q. o; held = h; long = l }
 
-never : {A : Type 0} (s t : Stage) → s ≡ Over → s ≡ Running → A
-never s t p q = let z : _≡_ {A = ℕ} 0 1 = cc in absurd (omega arith)
-
-pub ended-ready : (row : Row) (session after : Session) (out out-after line words : List ℕ) (len next : ℕ) → Ends row session out len after out-after next
+pub ended-ready : (row : Row) (session after : Session) (out out-after line words : List ℕ) (len next : ℕ) → EndsWithRow row session out len after out-after next
     → length line ≡ lineLength → Ready after line words
 ended-ready row session after out out-after line words len next k l =
-    subst (λ (s : Session). Ready s line words) (sym (k .over)) (record { order = λ q. never Over Over refl q; held = omega arith; long = l })
+    subst (λ (s : Session). Ready s line words) (sym (k .over)) (record { order = over-order (session .board) words; held = omega arith; long = l })

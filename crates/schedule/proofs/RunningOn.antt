@@ -18,7 +18,7 @@ use Rattle.record.specs.Entries.{scheduleOf}
 use Rattle.record.specs.declared.entries.ScheduleRead.{ScheduleRead}
 use Rattle.printout.specs.Writing.{longestRow}
 use Rattle.answers.specs.Answering.{Answers}
-use Rattle.schedule.specs.Telling.{Tells, overOf, Ends}
+use Rattle.schedule.specs.Telling.{Tells, overOf, EndsWithRow}
 use Rattle.schedule.specs.Feeding.{Feeding, runOf, feeding, feedOf}
 use Rattle.schedule.specs.Gathering.{Held, bytesOf, gatherOf}
 use Rattle.answers.specs.Moves.{slotOf}
@@ -80,10 +80,10 @@ module _ (board : Board) (count held : ℕ) (cr : Bool) (line words out : List �
   -- one record too many
   pub too-many : (session after : Session) (out-after : List ℕ) (next : ℕ) → closed ≡ true → mostRecords ≤ count
       → session ≡ running board count (h .held) (h .cr)
-      → Ends (nobodysRow (mostRecords + 1) TooManyRecords) session out len after out-after next
+      → EndsWithRow (nobodysRow (mostRecords + 1) TooManyRecords) session out len after out-after next
       → (feeding after (h .line) words out-after next, left) ≡ feedOf (feeding (running board count held cr) line words out len) bytes
   too-many session after out-after next e many x k =
-      let moved : Ends (nobodysRow (mostRecords + 1) TooManyRecords) (running board count held cr) out len after out-after next =
+      let moved : EndsWithRow (nobodysRow (mostRecords + 1) TooManyRecords) (running board count held cr) out len after out-after next =
       record { over = k .over ∙ ap overOf x; bytes = k .bytes; place = k .place } in
       let told = in-stage (running board count held cr) words out len Running (bytesOf h) after words out-after next refl
       (past-records (running board count held cr) words out len (bytesOf h) after out-after next many moved) in

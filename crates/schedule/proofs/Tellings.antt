@@ -37,7 +37,7 @@ use Rattle.printout.specs.declared.Row.{Row}
 use Rattle.word.specs.declared.Refusal.{Refusal}
 use Rattle.word.specs.declared.Refusal.the-variants.{TooManyRecords}
 use Rattle.answers.specs.Answering.{Answers}
-use Rattle.schedule.specs.Telling.{Tells, overOf, Ends}
+use Rattle.schedule.specs.Telling.{Tells, overOf, EndsWithRow}
 use Rattle.schedule.specs.Feeding.{runOf, sessionOf, feeding, telling}
 use Rattle.answers.specs.Moves.{slotOf, moveOf, rowBy}
 use Rattle.answers.specs.Order.{InOrder}
@@ -51,18 +51,18 @@ use Rattle.answers.proofs.EntryTold.{entry-told, entry-order}
 
 -- a last row
 pub ends : (row : Row) (session : Session) (out : List ℕ) (len : ℕ) (out-after : List ℕ) (next : ℕ) → longestRow ≤ length out - len
-    → _≡_ {A = Written} (out-after, next) (putRow row out len) → Ends row session out len (overOf session) out-after next
+    → _≡_ {A = Written} (out-after, next) (putRow row out len) → EndsWithRow row session out len (overOf session) out-after next
 ends row session out len out-after next room put =
     let whole = put ∙ row-put row out len room in
     record { over = refl; bytes = ap (λ (w : Written). w .0) whole; place = ap (λ (w : Written). w .1) whole }
 
 pub ends-at : (session : Session) (out : List ℕ) (len : ℕ) (row right : Row) (after : Session) (out-after : List ℕ) (next : ℕ)
-    → row ≡ right → Ends row session out len after out-after next → Ends right session out len after out-after next
-ends-at session out len row right after out-after next e k = subst (λ (r : Row). Ends r session out len after out-after next) e k
+    → row ≡ right → EndsWithRow row session out len after out-after next → EndsWithRow right session out len after out-after next
+ends-at session out len row right after out-after next e k = subst (λ (r : Row). EndsWithRow r session out len after out-after next) e k
 
 -- a run that ends with a row
 pub ends-tell : (row right : Row) (session after : Session) (words words-after out out-after : List ℕ) (len next : ℕ)
-    → row ≡ right → Ends row session out len after out-after next
+    → row ≡ right → EndsWithRow row session out len after out-after next
     → Tells (record { printed = rowOf right; run = ended (runOf session words) words-after }) out len after words-after out-after next
 ends-tell row right session after words words-after out out-after len next e k =
     record {
@@ -91,11 +91,8 @@ tells-feeding told session after line words words-after out out-after len next k
 abbrev Orderly : Run → Type 0
 Orderly run = OrderIn (run .stage) (run .board) (run .words)
 
-never : {A : Type 0} (s : Stage) → s ≡ Over → s ≡ Running → A
-never s p q = let z : _≡_ {A = ℕ} 0 1 = cc in absurd (omega arith)
-
-over-order : (board : Board) (words : List ℕ) → OrderIn Over board words
-over-order board words e = never Over refl e
+pub over-order : (board : Board) (words : List ℕ) → OrderIn Over board words
+over-order board words e = let z : _≡_ {A = ℕ} 0 1 = cc in absurd (omega arith)
 
 set-up-order : (run : Run) (s : Settings) → Orderly (bySettings run (Read s) .run)
 set-up-order run s = go (sizesCheck s (length (run .words))) refl
@@ -190,7 +187,7 @@ module _ (session : Session) (words out : List ℕ) (len : ℕ) where
 
   pub set-up-refuses : (s : Settings) (set : SetUp) (words-after : List ℕ) (why : Refusal) (row : Row) (after : Session) (out-after : List ℕ) (next : ℕ)
       → _≡_ {A = SetUp × List ℕ} (set, words-after) (setUpRule s words) → set .start ≡ StartRefused why → row ≡ setUpRow why
-      → Ends row session out len after out-after next
+      → EndsWithRow row session out len after out-after next
       → Tells (bySettings (runOf session words) (Read s)) out len after words-after out-after next
   set-up-refuses s set words-after why row after out-after next made refused e k =
       subst (λ (r : SetUp × List ℕ). Tells (bySetUp (runOf session words) (r .0 .start) (r .0 .board) (r .1)) out len after words-after out-after next) made
@@ -206,7 +203,7 @@ module _ (session : Session) (words out : List ℕ) (len : ℕ) where
       subst (λ (r : SettingsRead). Tells (bySettings (runOf session words) r) out len after words-after out-after next) (sym q ∙ e) k
 
   pub settings-refused : (bytes : List ℕ) (read : SettingsRead) (why : Refusal) (row : Row) (after : Session) (out-after : List ℕ) (next : ℕ)
-      → read ≡ settingsOf bytes → read ≡ SettingsRefused why → row ≡ setUpRow why → Ends row session out len after out-after next
+      → read ≡ settingsOf bytes → read ≡ SettingsRefused why → row ≡ setUpRow why → EndsWithRow row session out len after out-after next
       → Tells (setUpTold (runOf session words) bytes) out len after words out-after next
   settings-refused bytes read why row after out-after next e q r k =
       as-read bytes read (SettingsRefused why) after words out-after next e q (ends-tell row (setUpRow why) session after words words out out-after len next r k)
@@ -224,7 +221,7 @@ module _ (session : Session) (words out : List ℕ) (len : ℕ) where
       (sym (lt-ltb (session .count) mostRecords few))) k
 
   pub past-records : (bytes : List ℕ) (after : Session) (out-after : List ℕ) (next : ℕ)
-      → mostRecords ≤ session .count → Ends (nobodysRow (mostRecords + 1) TooManyRecords) session out len after out-after next
+      → mostRecords ≤ session .count → EndsWithRow (nobodysRow (mostRecords + 1) TooManyRecords) session out len after out-after next
       → Tells (scheduleTold (runOf session words) bytes) out len after words out-after next
   unfolding scheduleTold
   past-records bytes after out-after next many k =

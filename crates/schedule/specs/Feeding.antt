@@ -50,18 +50,18 @@ telling f told =
     }
 
 -- the gathered record is answered
-abbrev pub answered : Feeding → Feeding
-answered f = telling f (recordTold (f .run) (bytesOf (f .held)))
+abbrev pub recordAnswered : Feeding → Feeding
+recordAnswered f = telling f (recordTold (f .run) (bytesOf (f .held)))
 
 -- a byte of the input, at whose pair the record is answered
-abbrev pub gathering : Feeding → ℕ → Feeding
-gathering f byte =
-    cond (closes (f .held) byte) (answered (holding f (put (f .held) byte))) (holding f (put (f .held) byte))
+abbrev pub byteGathered : Feeding → ℕ → Feeding
+byteGathered f byte =
+    cond (closes (f .held) byte) (recordAnswered (holding f (put (f .held) byte))) (holding f (put (f .held) byte))
 
 -- when the run is over the input is not looked at
 abbrev pub takeIn : Stage → Feeding → ℕ → Feeding
-takeIn Waiting f byte = gathering f byte
-takeIn Running f byte = gathering f byte
+takeIn Waiting f byte = byteGathered f byte
+takeIn Running f byte = byteGathered f byte
 takeIn Over f byte = f
 
 unfoldable pub takeByte : Feeding → ℕ → Feeding
@@ -91,7 +91,7 @@ feedOf f (byte ∷ bytes) =
 -- the input has ended: a last record without its pair is answered
 abbrev pub finishIn : Bool → Feeding → Feeding
 finishIn true f = f
-finishIn false f = answered f
+finishIn false f = recordAnswered f
 
 unfoldable pub finishOf : Feeding → Feeding
 finishOf f = finishIn (eqb (f .held .held) 0) f

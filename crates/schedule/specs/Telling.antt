@@ -22,7 +22,7 @@ pub record Tells (told : Told) (out : List ℕ) (len : ℕ) (after : Session) (w
 abbrev pub overOf : Session → Session
 overOf session = record { stage = Over; board = session .board; count = session .count; held = 0; cr = false }
 
-pub record Ends (row : Row) (session : Session) (out : List ℕ) (len : ℕ) (after : Session) (out-after : List ℕ) (len-after : ℕ) : Type 0 where
+pub record EndsWithRow (row : Row) (session : Session) (out : List ℕ) (len : ℕ) (after : Session) (out-after : List ℕ) (len-after : ℕ) : Type 0 where
   pub over : after ≡ overOf session
   pub bytes : out-after ≡ sets out len (rowOf row)
   pub place : len-after ≡ len + length (rowOf row)

@@ -4,13 +4,13 @@ use Prim.Native.Nat.{ℕ}
 use Rattle.rules.specs.Text.{ascii}
 
 -- a field with the comma before it
-abbrev pub after : List ℕ → List ℕ
-after field = ascii "," ++ field
+abbrev pub afterComma : List ℕ → List ℕ
+afterComma field = ascii "," ++ field
 
 -- what follows a line's first field: the other fields, and CR LF
 abbrev pub rest : List (List ℕ) → List ℕ
 rest [] = ascii "\r\n"
-rest (field ∷ fields) = after field ++ rest fields
+rest (field ∷ fields) = afterComma field ++ rest fields
 
 abbrev pub line : List ℕ → List (List ℕ) → List ℕ
 line first others = first ++ rest others

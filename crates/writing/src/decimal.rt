@@ -3,7 +3,7 @@ ghost use mathlib.Core.Path.{_≡_};
 ghost use Prim.Native.Nat.{_+_, _≤_, _<_};
 ghost use lib.ListN.{length};
 ghost use Rattle.fields.specs.Decimal.{decimal};
-ghost use Rattle.writing.specs.Line.{after};
+ghost use Rattle.writing.specs.Line.{afterComma};
 ghost use Rattle.writing.specs.Put.{Put};
 use super::bytes::put;
 
@@ -45,8 +45,8 @@ pub fn put_decimal(x: u64, out: &mut [u8], at: usize) -> usize
 
 // A number with the comma before it.
 pub fn put_number(x: u64, out: &mut [u8], at: usize) -> usize
-    requires { ⌜ at + length (after (decimal x)) ≤ length (now out) ⌝ }
-    ensures { λ r. ⌜ Put (now (out .entry)) at (after (decimal x)) (now (out .exit)) r ⌝ }
+    requires { ⌜ at + length (afterComma (decimal x)) ≤ length (now out) ⌝ }
+    ensures { λ r. ⌜ Put (now (out .entry)) at (afterComma (decimal x)) (now (out .exit)) r ⌝ }
 {
     let next = put(b",", out, at);
     put_decimal(x, out, next)

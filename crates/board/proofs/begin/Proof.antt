@@ -3,10 +3,10 @@
 use mathlib.Core.Path.{ap, _∙_, sym}
 use native.Mathlib.Omega.{arith}
 use borrow.Author.Needs.{needs}
+use Rattle.rules.specs.Entry.{laidBack}
 use Rattle.rules.specs.declared.Moved.{Moved}
 use Rattle.rules.proofs.Refusals.Refusing.{begin-refused-first}
 use Rattle.rules.proofs.Refusals.Served.{Served, served}
-use Rattle.calls.specs.OneProcess.{laidBack}
 use Rattle.calls.proofs.Served.{begin-served}
 use Rattle.board.proofs.begin.Statement.{statement}
 use Rattle.board.proofs.begin.Tie as tie

@@ -14,7 +14,7 @@ use Rattle.rules.specs.Onlooker.{Seen, taken, variableAt, placeOf, answe
 use Rattle.rules.specs.Refusals.{sizesCheck}
 use Rattle.rules.specs.Runs.{State, Event, begin, step, entry, after, fresh, run}
 use Rattle.rules.specs.Sizes.{bits}
-use Rattle.rules.specs.Types.{Answered, Call, Fine, Process, Settings}
+use Rattle.rules.specs.Types.{Answer, Answered, Call, Fine, Process, Settings}
 use Rattle.rules.proofs.Tests.{never}
 use Rattle.rules.proofs.Demand3.Follow.{RightAnswer, BeginFollows, begin-follows, StepFollows, step-follows}
 use Rattle.rules.proofs.Demand3.Means.{BoardMeans}
@@ -37,11 +37,14 @@ pub record Stepped (s : Settings) (state : State) (seen : ℕ → Seen) (me : �
       (at-place (entry (step me) state .0 .values))
   pub counts : taken (answerOf (step me) state) ≡ true → Counts me (watch (step me) state seen (variableAt (placeOf state me))) (noteOf (step me) state)
 
--- a step that is taken is in a short sequence
-abbrev ShortStep : Settings → State → (ℕ → Seen) → ℕ → Type 0
-ShortStep s state seen me =
-    taken (answerOf (step me) state) ≡ true → inSequence (placeOf state me) ≡ true →
+-- a step that answers so, if it is taken, is in a short sequence
+abbrev ShortBy : Settings → State → (ℕ → Seen) → ℕ → Answer → Type 0
+ShortBy s state seen me a =
+    taken a ≡ true → inSequence (placeOf state me) ≡ true →
     length (seen (variableAt (placeOf state me)) .since me) ≤ mostStores (bits s)
+
+abbrev ShortStep : Settings → State → (ℕ → Seen) → ℕ → Type 0
+ShortStep s state seen me = ShortBy s state seen me (answerOf (step me) state)
 
 abbrev stateOf : Settings → List Process → List ℕ → State
 stateOf s processes words = record { board = record { settings = s; processes = processes }; words = words }
@@ -58,13 +61,9 @@ module _ (s : Settings) (z : Sized s) where
     abbrev Follows : Answered × List ℕ → Type 0
     Follows = StepFollows s z (S .machine) (S .inv) processes words seen (S .means) me
 
-    abbrev Short-by : Answered × List ℕ → Type 0
-    Short-by a = taken (a .0 .answer) ≡ true → inSequence (placeOf state me) ≡ true →
-        length (seen (variableAt (placeOf state me)) .since me) ≤ mostStores (bits s)
-
     step-by : ShortStep s state seen me →
         Follows (stepRule (state .board) me words)
-    step-by = step-cases (λ a. Short-by a → Follows a)
+    step-by = step-cases (λ a. ShortBy s state seen me (a .0 .answer) → Follows a)
         (state .board) me words
         (λ a busy B. step-follows s z (S .machine) (S .inv) processes words seen (S .means) me a busy (λ g i. omega (arith, B g i, two)))
         (λ r B. record { next = S .machine; inv = S .inv; means = S .means; right = tt; counts = λ g. never (sym g) })

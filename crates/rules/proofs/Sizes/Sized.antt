@@ -36,7 +36,6 @@ sized s e =
     record {
       n-least = least 1 16 (s .n) n;
       n-most = most 1 16 (s .n) n;
-      t-least = least 1 16 (s .t) t;
       t-most = most 1 16 (s .t) t;
       b-least = least 4 48 (bits s) b;
       b-most = most 4 48 (bits s) b;

@@ -12,12 +12,12 @@ returns c = simp (lt-leb _ _ (c .if1 .taken))
 body-requires : tie.Need-body-requires
 body-requires c κs = search needs
 
-has-seven-fields-requires : tie.Need-has-seven-fields-requires
-has-seven-fields-requires c κs = search needs
+body-in-form-requires : tie.Need-body-in-form-requires
+body-in-form-requires c κs = search needs
 
 returns-2 : tie.Need-returns-2
 unfolding inForm
-returns-2 c = simp (le-leb _ _ (c .before .before .if1 .left), c .has-seven-fields .ensures, c .before .body .ensures)
+returns-2 c = simp (le-leb _ _ (c .before .before .if1 .left), c .body-in-form .ensures, c .before .body .ensures)
 
 pub in-form-spec : {M : Type 1} → statement M
-in-form-spec = tie.close (tie.spec returns body-requires has-seven-fields-requires returns-2)
+in-form-spec = tie.close (tie.spec returns body-requires body-in-form-requires returns-2)

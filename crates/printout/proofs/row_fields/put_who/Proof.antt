@@ -1,6 +1,6 @@
 -- `put_who` goes by cases: the bytes of the case are those of the two fields. Assumes nothing.
 use Rattle.fields.specs.Decimal.{decimal}
-use Rattle.writing.specs.Line.{after}
+use Rattle.writing.specs.Line.{afterComma}
 use Rattle.record.specs.Words.{actWord}
 use native.Mathlib.Omega.{arith}
 use lib.ListN.{length-append}
@@ -35,7 +35,7 @@ put-number-requires c κs =
     let arm = c .before .before in
     let given = arm .who .given in
     let room = rw (given .1) at (arm .before .before .before .pre) in
-    omega (arith, room, length-append (decimal (given .0 .0)) (after (actWord (given .0 .1 .0))))
+    omega (arith, room, length-append (decimal (given .0 .0)) (afterComma (actWord (given .0 .1 .0))))
 
 put-act-requires : tie.Need-put-act-requires
 put-act-requires c κs =
@@ -43,7 +43,7 @@ put-act-requires c κs =
     let arm = number .before .before .before in
     let given = arm .who .given in
     let room = rw (given .1) at (arm .before .before .before .pre) in
-    omega (arith, room, length-append (decimal (given .0 .0)) (after (actWord (given .0 .1 .0))))
+    omega (arith, room, length-append (decimal (given .0 .0)) (afterComma (actWord (given .0 .1 .0))))
 
 same-length : tie.Need-same-length
 same-length c = search needs

@@ -1,4 +1,4 @@
--- `has_seven_fields` meets its contract. The invariant: what is found and what is left make the whole. Assumes nothing.
+-- `body_in_form` meets its contract. The invariant: what is found and what is left make the whole. Assumes nothing.
 use Prim.Native.Nat.{_+_, _-_, _≤_, _<_}
 use mathlib.Core.Path.{_≡_, refl, sym, _∙_}
 use native.Mathlib.Omega.{arith}
@@ -7,8 +7,8 @@ use mathlib.Core.Bool.{true, false}
 use lib.ListN.{length, drop}
 use Rattle.fields.specs.Form.{noStray, commas}
 use Rattle.fields.proofs.Splits.{commas-comma, commas-other, commas-end, stray-here, stray-not, stray-end}
-use Rattle.fields.proofs.shape.has_seven_fields.Statement.{statement}
-use Rattle.fields.proofs.shape.has_seven_fields.Tie as tie
+use Rattle.fields.proofs.shape.body_in_form.Statement.{statement}
+use Rattle.fields.proofs.shape.body_in_form.Tie as tie
 
 abbrev Inv-loop : tie.InvT-loop
 Inv-loop inside found₀ i₀ found i =
@@ -70,8 +70,8 @@ returns-2 c =
     let clean : noStray s ≡ true = sym (p .loop .inv .2) ∙ stray-end s (p .loop .i) h in
     rw (all, clean)
 
-pub has-seven-fields-spec : {M : Type 1} → statement M
-has-seven-fields-spec =
+pub body-in-form-spec : {M : Type 1} → statement M
+body-in-form-spec =
     tie.close
     (tie.spec
     Inv-loop
