@@ -2,7 +2,7 @@
 -- no other variable's sequence and keep-word changes, nor the new values; at most one word is changed, the one its place
 -- names; and the answer is no refusal. Assumes nothing.
 use mathlib.Core.Path.{_≡_, refl, sym, ap, _∙_}
-use mathlib.Core.Bool.{Bool, true, false, cond, not, _&&_}
+use mathlib.Core.Bool.{Bool, true, false, cond, not}
 use mathlib.Core.List.{List}
 use Prim.Native.Nat.{ℕ, _+_}
 use lib.Dec.{eqb, ltb}
@@ -12,13 +12,13 @@ use Rattle.word.specs.Word.{tagOf, previousTag}
 use Rattle.rules.specs.Figure4.{Step}
 use Rattle.rules.specs.Figure6.{saving, copyOn, copyCutShort}
 use Rattle.rules.specs.Onlooker.{taken}
-use Rattle.rules.specs.Processes.{isIdle, isOpen, withClosed, keptOf, opening, closing}
+use Rattle.rules.specs.Processes.{isIdle, isOpen, withClosed, keptOf, opening, closing, ends}
 use Rattle.rules.specs.Sizes.{bits, wordAt, headerAt, segmentAt, announceAt, wordOf, headerOf, segmentOf}
 use Rattle.rules.specs.Steps.{stepFrom}
-use Rattle.rules.specs.Types.{Answer, Yes, No, Copy, Moved, Place, Idle, LoadReadsWord, ValidateReadsWord, StoreSwapsWord, LoadReadsHeader, ValidateReadsHeader, StoreReadsHeader, StoreAnnounces, StoreSwapsHeader, ReadsSegment, ReadsAnnounced, SwapsSegment, ReadsSegmentAgain, ReadsHeader, Process, Settings}
+use Rattle.rules.specs.Types.{Answer, Copy, Moved, Place, Idle, LoadReadsWord, ValidateReadsWord, StoreSwapsWord, LoadReadsHeader, ValidateReadsHeader, StoreReadsHeader, StoreAnnounces, StoreSwapsHeader, ReadsSegment, ReadsAnnounced, SwapsSegment, ReadsSegmentAgain, ReadsHeader, Process, Settings}
 use Rattle.rules.proofs.Branches.{branch, both-arms}
 use Rattle.rules.proofs.Sequences.Closing.{opening-opens, opening-no-other, closing-closes, closing-no-other}
-use Rattle.rules.proofs.Changes.Places.{variableAt, Writes, isBusy, openAfter}
+use Rattle.rules.proofs.Changes.Places.{variableAt, Writes, openAfter}
 
 -- a process p and what a step from place l makes of it
 pub record Own (l : Place) (p : Process) (moved : Moved) : Type 0 where
@@ -76,18 +76,6 @@ module _ (l : Place) (p : Process) (moved : Moved)
         values = values;
         answers = answers;
       }
-
-yes-or-no : (test : Bool) → taken (cond test Yes No) ≡ true
-yes-or-no true = refl
-yes-or-no false = refl
-
--- an answer of a call that is no store leaves the sequence
-no-store : (answer : Answer) (open' : Bool) → cond (not (isBusy answer) && false) false open' ≡ open'
-no-store answer open' = go (not (isBusy answer))
-  where
-    go : (t : Bool) → cond (t && false) false open' ≡ open'
-    go true = refl
-    go false = refl
 
 module _ (W : ℕ → Type 0) (words : List ℕ) where
   untouched : Touched W words words
@@ -148,8 +136,10 @@ framed Idle s p me words e = reads (stays Idle p _ refl (sym e) refl refl refl)
 framed (LoadReadsWord x) s p me words e =
     reads (opens (LoadReadsWord x) p _ refl refl (wordOf x words) refl refl refl)
 framed (ValidateReadsWord x) s p me words e =
-    let same = eqb (wordOf x words) (keptOf x p) in
-    reads (stays (ValidateReadsWord x) p _ refl (yes-or-no same) refl refl (no-store (cond same Yes No) _))
+    reads
+    (both-arms (λ (answer : Answer). Own (ValidateReadsWord x) p (ends answer p)) (eqb (wordOf x words) (keptOf x p)) _ _
+    (stays (ValidateReadsWord x) p _ refl refl refl refl refl)
+    (stays (ValidateReadsWord x) p _ refl refl refl refl refl))
 framed (StoreSwapsWord x) s p me words e =
     both-arms (Framed (StoreSwapsWord x) (Writes s me (StoreSwapsWord x)) p words) (eqb (wordOf x words) (keptOf x p)) _ _
     (writes (closes (StoreSwapsWord x) p _ refl refl refl refl refl) (wordAt x) _ (λ b q. q))
@@ -157,8 +147,11 @@ framed (StoreSwapsWord x) s p me words e =
 framed (LoadReadsHeader x) s p me words e =
     reads (opens (LoadReadsHeader x) p _ refl refl (tagOf (bits s) (headerOf s x words)) refl refl refl)
 framed (ValidateReadsHeader x) s p me words e =
-    let same = eqb (tagOf (bits s) (headerOf s x words)) (keptOf x p) in
-    reads (stays (ValidateReadsHeader x) p _ refl (yes-or-no same) refl refl (no-store (cond same Yes No) _))
+    reads
+    (both-arms (λ (answer : Answer). Own (ValidateReadsHeader x) p (ends answer p))
+    (eqb (tagOf (bits s) (headerOf s x words)) (keptOf x p)) _ _
+    (stays (ValidateReadsHeader x) p _ refl refl refl refl refl)
+    (stays (ValidateReadsHeader x) p _ refl refl refl refl refl))
 framed (StoreReadsHeader x) s p me words e =
     both-arms (Framed (StoreReadsHeader x) (Writes s me (StoreReadsHeader x)) p words)
     (eqb (tagOf (bits s) (headerOf s x words)) (keptOf x p)) _ _
