@@ -1,7 +1,7 @@
 #!/usr/bin/env python3
 """Time the program against the plain stepper, in one run on the same input: speed.py PROGRAM
 
-For each board and number of records: processor seconds, the least of five runs each, turn about; and the ratio.
+For each board and number of records: processor seconds, the least of fifteen runs each, turn about; and the ratio.
 The plain stepper does the same checks as the program (it does not look at the whole board's good form at each
 record: the program proves that form is kept).
 """
@@ -19,7 +19,7 @@ BOARDS = [
     "16,one,16,16,1,,",
     "1,one,16,16,1,,",
 ]
-RUNS = 5
+RUNS = 15
 
 
 def seconds(command, schedule):
