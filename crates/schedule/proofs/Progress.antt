@@ -104,3 +104,8 @@ pub ended-ready : (row : Row) (session after : Session) (out out-after line word
     → length line ≡ lineLength → Ready after line words
 ended-ready row session after out out-after line words len next k l =
     subst (λ (s : Session). Ready s line words) (sym (k .over)) (record { order = over-order (session .board) words; held = omega arith; long = l })
+
+-- the place that the answer gives is the one that was reached
+pub placed : (f : Feeding) (chunk : List ℕ) (at next : ℕ) (all : Feeding × List ℕ) → at ≡ next → _≡_ {A = Feeding × List ℕ} (f, drop next chunk) all
+    → _≡_ {A = Feeding × List ℕ} (f, drop at chunk) all
+placed f chunk at next all same whole = ap (λ (n : ℕ). (f, drop n chunk)) same ∙ whole

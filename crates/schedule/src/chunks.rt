@@ -1,12 +1,15 @@
 // Bytes of the input fed to a run, as far as there is room for rows.
 ghost use mathlib.Core.Path.{_≡_};
 ghost use mathlib.Core.List.{List};
-ghost use Prim.Native.Nat.{ℕ, _-_, _≤_};
+ghost use Prim.Native.Nat.{ℕ, _+_, _-_, _≤_};
 ghost use lib.Dec.{ltb};
 ghost use lib.ListN.{length, drop};
 ghost use Rattle.printout.specs.Writing.{longestRow};
 ghost use Rattle.schedule.specs.Feeding.{Feeding, feeding, feedOf};
 ghost use Rattle.schedule.specs.Ready.{Ready};
+ghost use Rattle.schedule.specs.Telling.{EndsWithRow};
+ghost use Rattle.word.specs.declared.Refusal.the-variants.{TooManyRecords};
+ghost use Rattle.answers.specs.Run.{mostRecords, nobodysRow};
 ghost use Rattle.answers.specs.declared.Stage.the-variants.{Waiting, Running};
 use crate::Fed;
 use crate::MOST_RECORDS;
@@ -54,6 +57,20 @@ fn fed_running(board: Board, count: u64, held: usize, cr: bool, next: usize, len
         session: session,
         next: next,
         len: len,
+    }
+}
+
+// 12, with which the run is over, after the bytes before `next`.
+fn fed_too_many(session: Session, next: usize, out: &mut [u8], len: usize) -> Fed
+    requires { ⌜ longestRow ≤ length (now out) - len ⌝ }
+    ensures { λ r. ⌜ EndsWithRow (nobodysRow (mostRecords + 1) TooManyRecords) session (now (out .entry)) len (r .session) (now (out .exit)) (r .len) × (r .next ≡ next) ⌝ }
+{
+    let last = end_with_too_many(session, out, len);
+    let after = last.session;
+    Fed {
+        session: after,
+        next: next,
+        len: last.len,
     }
 }
 
@@ -127,13 +144,7 @@ pub(crate) fn feed_running(
         next = found.next;
         if found.closed {
             if count >= MOST_RECORDS {
-                let last = end_with_too_many(running(board, count, held, cr), out, size);
-                let after = last.session;
-                return Fed {
-                    session: after,
-                    next: next,
-                    len: last.len,
-                };
+                return fed_too_many(running(board, count, held, cr), next, out, size);
             }
             let read = read_schedule(&line[..held], s.w);
             let entry = read.entry;

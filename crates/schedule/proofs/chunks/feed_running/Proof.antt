@@ -12,7 +12,7 @@ use Rattle.schedule.specs.Gathering.{lineLength}
 use Rattle.answers.specs.Order.{InOrder}
 use Rattle.schedule.proofs.Feeding.{feed-full}
 use Rattle.answers.proofs.OneProcess.{all-sized}
-use Rattle.schedule.proofs.Progress.{progress, used-up, open-on, is-full, room, as-running, running-ready, ended-ready}
+use Rattle.schedule.proofs.Progress.{progress, used-up, open-on, is-full, room, as-running, running-ready, ended-ready, placed}
 use Rattle.schedule.proofs.RunningOn.{running, fedRunning, ensured, Served, served, too-many, goes-on}
 use Rattle.schedule.proofs.chunks.feed_running.Statement.{statement}
 use Rattle.schedule.proofs.chunks.feed_running.Tie as tie
@@ -68,31 +68,31 @@ gather-requires c κs =
 running-requires : tie.Need-running-requires Inv-loop μ-loop
 running-requires c κs = omega arith
 
-end-with-too-many-requires : tie.Need-end-with-too-many-requires Inv-loop μ-loop
-end-with-too-many-requires c κs =
+fed-too-many-requires : tie.Need-fed-too-many-requires Inv-loop μ-loop
+fed-too-many-requires c κs =
     let at-if1 = c .before .before .before .before .before .before .before .before in
     let at-is-full = at-if1 .before in
     room _ _ (at-is-full .is-full .ensures) (at-if1 .if1 .left)
 
 same-length-4 : tie.Need-same-length-4 Inv-loop μ-loop
 same-length-4 c =
-    let at-gather = c .before .before .before .before .before .before .before .before .before .before in
+    let at-gather = c .before .before .before .before .before .before .before .before .before in
     let at-loop = at-gather .before .before .before .before .before in
     omega (arith, at-loop .loop .inv .5, at-gather .gather .ensures .1 .2, at-loop .loop .inv .4)
 
 same-length-5 : tie.Need-same-length-5 Inv-loop μ-loop
 same-length-5 c =
-    let at-loop = c .before .before .before .before .before .before .before .before .before .before .before .before .before .before .before in
+    let at-loop = c .before .before .before .before .before .before .before .before .before .before .before .before .before .before in
     omega (arith, at-loop .loop .inv .6)
 
 same-length-6 : tie.Need-same-length-6 Inv-loop μ-loop
 same-length-6 c =
-    let at-loop = c .before .before .before .before .before .before .before .before .before .before .before .before .before .before .before in
-    omega (arith, at-loop .loop .inv .7, c .before .before .out .given)
+    let at-loop = c .before .before .before .before .before .before .before .before .before .before .before .before .before .before in
+    omega (arith, at-loop .loop .inv .7, c .before .out .given)
 
 returns-2 : tie.Need-returns-2 Inv-loop μ-loop
 returns-2 c =
-    let at-running = c .before .before .before .before .before in
+    let at-running = c .before .before .before .before in
     let at-if3 = at-running .before in
     let at-if2 = at-if3 .before in
     let at-gather = at-if2 .before .before .before in
@@ -104,11 +104,13 @@ returns-2 c =
     let a = start .args in
     let whole = loop .inv .8 ∙ as-running (a .session) (a .line .now) (a .mem .now) (a .out .now) (a .len) (drop (a .at) (a .chunk .now)) (start .pre .0) in
     let gathered = at-gather .gather .ensures in
-    let ended = c .before .before .before .end-with-too-many .ensures in (
-      too-many (loop .board) (loop .count) (loop .held) (loop .cr) (loop .line) (loop .mem) (loop .out) (loop .size) (drop (loop .next) (a .chunk .now)) _ _ _
+    let over = c .before .before .fed-too-many .ensures in
+    let ended = over .0 in (
+      placed _ (a .chunk .now) _ _ _ (over .1)
+          (too-many (loop .board) (loop .count) (loop .held) (loop .cr) (loop .line) (loop .mem) (loop .out) (loop .size) (drop (loop .next) (a .chunk .now)) _ _ _
           (room _ _ (at-is-full .is-full .ensures) (at-if1 .if1 .left)) (gathered .0) _ _ _ _ (at-if2 .if2 .taken) (at-if3 .if3 .taken)
-          (at-running .running .ensures) ended ∙ whole,
-      (ended-ready _ _ _ _ _ _ _ _ _ ended (gathered .1 .2), gathered .1 .1),
+          (at-running .running .ensures) ended ∙ whole),
+      (ended-ready _ _ _ _ _ _ _ _ _ ended (gathered .1 .2), omega (arith, gathered .1 .1, over .1)),
     )
 
 slice-reshare-prefix-read-schedule : tie.Need-slice-reshare-prefix-read-schedule Inv-loop μ-loop
@@ -286,7 +288,7 @@ feed-running-spec =
     returns
     gather-requires
     running-requires
-    end-with-too-many-requires
+    fed-too-many-requires
     same-length-4
     same-length-5
     same-length-6
