@@ -20,6 +20,7 @@ use rows::row_by;
 pub use rows::set_up_row;
 use rules::Process;
 use rules::Settings;
+use rules::Values;
 
 // A run waits for its set-up, runs, or is over.
 pub enum Stage {
@@ -38,7 +39,7 @@ pub fn answer(
     number: u64,
     s: Settings,
     entry: Entry,
-    values: [u64; 4],
+    values: Values,
     p: Process,
     mem: &mut [u64],
     out: &mut [u8],

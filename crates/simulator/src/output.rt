@@ -2,6 +2,7 @@
 // with the heading, grows by rows, and is emptied by `flush` alone, which writes them. That the system then does as it is
 // asked no contract can say; it is to be believed of this file.
 ghost use mathlib.Core.Path.{_≡_};
+ghost use mathlib.Core.Bool.{true, false};
 ghost use Prim.Native.Nat.{_≤_};
 ghost use lib.ListN.{length};
 ghost use Rattle.printout.specs.Row.{heading};
@@ -17,7 +18,7 @@ pub struct Output {
 // The heading waits.
 pub fn begun(len: usize) -> Output
     requires { ⌜ len ≡ length heading ⌝ }
-    ensures { λ r. ⌜ r .len ≡ len ⌝ }
+    ensures { λ r. ⌜ (r .len ≡ len) × (r .failed ≡ false) ⌝ }
 {
     Output {
         len: len,
@@ -28,7 +29,7 @@ pub fn begun(len: usize) -> Output
 // More bytes wait than before.
 pub fn grown(output: Output, len: usize) -> Output
     requires { ⌜ output .len ≤ len ⌝ }
-    ensures { λ r. ⌜ r .len ≡ len ⌝ }
+    ensures { λ r. ⌜ (r .len ≡ len) × (r .failed ≡ output .failed) ⌝ }
 {
     Output {
         len: len,
@@ -46,7 +47,7 @@ pub fn waiting(output: Output) -> usize
 // Writes the bytes that wait, so that none does.
 pub fn flush(out: &[u8], output: Output) -> Output
     requires { ⌜ output .len ≤ length (now out) ⌝ }
-    ensures { λ r. ⌜ r .len ≡ 0 ⌝ }
+    ensures { λ r. ⌜ (r .len ≡ 0) × (output .failed ≡ true → r .failed ≡ true) ⌝ }
 {
     let len = output.len;
     if output.failed {

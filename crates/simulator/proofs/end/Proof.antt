@@ -50,8 +50,8 @@ returns c =
     let free = room-made (a .session) (a .line .now) (a .mem .now) (a .out .now) (a .held .len) _ made (start .pre .2) in
     let roomy = feeding (a .session) (a .line .now) (a .mem .now) (a .out .now) (at-waiting .waiting .result) in
     let whole = at-finish .finish .ensures ∙ ap (λ (n : ℕ). finishOf (feeding (a .session) (a .line .now) (a .mem .now) (a .out .now) n)) made in (
-      (ap (λ (f : Feeding). f .out) whole, c .grown .ensures ∙ ap (λ (f : Feeding). f .len) whole),
-      omega (arith, finished-grown roomy _ (at-finish .finish .ensures) free .0, c .grown .ensures),
+      (ap (λ (f : Feeding). f .out) whole, c .grown .ensures .0 ∙ ap (λ (f : Feeding). f .len) whole),
+      omega (arith, finished-grown roomy _ (at-finish .finish .ensures) free .0, c .grown .ensures .0),
     )
 
 pub end-spec : {M : Type 1} → statement M

@@ -26,7 +26,7 @@ flush-requires c κs = search needs
 returns : tie.Need-returns
 returns c =
     let at-waiting = c .before .before in
-    c .flush .ensures ∙ sym (made _ _ _ (at-waiting .waiting .ensures) (lt-ltb _ _ (c .before .if1 .taken)))
+    c .flush .ensures .0 ∙ sym (made _ _ _ (at-waiting .waiting .ensures) (lt-ltb _ _ (c .before .if1 .taken)))
 
 returns-2 : tie.Need-returns-2
 returns-2 c = sym (made _ _ _ (c .before .waiting .ensures) (le-ltb _ _ (c .if1 .left)))

@@ -45,7 +45,7 @@ read-all-requires c κs =
     let heading = start-is _ (start .args .line .now) (start .args .out .now) _ _ (begun .0) (begun .1) (start .pre .2) in
     let within = started-within (start .args .line .now) (start .args .out .now) _ heading (start .pre .2) in (
       start-ready _ (start .args .line .now) (start .args .mem .now) (begun .0) (start .pre .0),
-      omega (arith, within, at-begun .begun .ensures),
+      omega (arith, within, at-begun .begun .ensures .0),
       omega (arith, start .pre .2, at-begun .before .before .before .out .given),
     )
 
@@ -74,7 +74,7 @@ returns c =
     let start = at-start .before .before .before .before .before in
     let begun = at-start .start .ensures in
     let some = from-start _ (start .args .line .now) (start .args .mem .now) (start .args .out .now) _ _ _ _ (begun .0) (begun .1) (start .pre .2)
-    (start .pre .1) (at-begun .begun .ensures) (at-read .read-all .ensures .0) in
+    (start .pre .1) (at-begun .begun .ensures .0) (at-read .read-all .ensures .0) in
     let ended = at-end .end .ensures in
     let at-out = at-begun .before .before .before in
     let at-out2 = at-end .before .before .before .before .before .before in

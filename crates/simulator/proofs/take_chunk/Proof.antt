@@ -92,12 +92,12 @@ loop-again c =
     let so-far = takes-made-room (loop .run) (loop .line) (loop .mem) (loop .out) (loop .output .len) _ made _ _ (loop .inv .6) in
     let all = takes-on roomy _ chunk (loop .at) _ (fed .1 .1) (fed .0) _ (loop .inv .2) so-far in (
       fed .1 .0,
-      omega (arith, grown .0, c .grown .ensures),
+      omega (arith, grown .0, c .grown .ensures .0),
       fed .1 .1,
       omega (arith, loop .inv .3, at-line .line .given),
       omega (arith, loop .inv .4, at-mem .mem .given),
       omega (arith, loop .inv .5, at-out .out .given),
-      takes-counted _ _ _ _ (c .grown .ensures) all,
+      takes-counted _ _ _ _ (c .grown .ensures .0) all,
     )
 
 same-length : tie.Need-same-length Inv-loop μ-loop
