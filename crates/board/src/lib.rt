@@ -21,9 +21,13 @@ use word::Refusal;
 
 mod checks; // checks.rt: refusals 1 to 4, of a board
 mod fresh; // fresh.rt: set-up, and the blank board
+mod numbers; // numbers.rt: the number of what an entry point answers
 
 pub use fresh::blank_board;
 pub use fresh::set_up;
+pub use numbers::answer_number;
+pub use numbers::open_number;
+pub use numbers::start_number;
 
 fn refusing(board: Board, refusal: Refusal) -> Answered
     ensures { λ r. ⌜ r ≡ refusing board refusal ⌝ }

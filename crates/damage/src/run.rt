@@ -1,67 +1,27 @@
 // A case handed to every entry point. Its line: family, case, then the number that set-up, a load, a validate and a store
 // begun, a step and the open count answer, 0 where they are not refused; and the open count, where it is told.
-ghost use mathlib.Core.Path.{_≡_};
-ghost use Rattle.word.specs.Refusals.{number};
 use crate::cases::Case;
-use rules::Answer;
 use rules::Board;
 use rules::Call;
 use rules::OpenCount;
-use rules::Start;
-use word::Refusal;
-
-fn number(refusal: Refusal) -> u64
-    ensures { λ r. ⌜ r ≡ number refusal ⌝ }
-{
-    match refusal {
-        Refusal::SettingOutsideSizes => 1,
-        Refusal::MemoryTooShort => 2,
-        Refusal::NotInGoodForm => 3,
-        Refusal::NoSuchProcess => 4,
-        Refusal::NoSuchVariable => 5,
-        Refusal::CallInProgress => 6,
-        Refusal::NoOpenSequence => 7,
-        Refusal::ValueTooGreat => 8,
-        Refusal::ProcessIdle => 9,
-        Refusal::RecordNotInForm => 10,
-        Refusal::FieldNotInForm => 11,
-        Refusal::TooManyRecords => 12,
-    }
-}
 
 fn print(n: u64) {
     io::write_all(1, b" ");
     io::print_decimal(1, n);
 }
 
-fn print_start(start: Start) {
-    match start {
-        Start::Ready => print(0),
-        Start::Refused(refusal) => print(number(refusal)),
-    }
-}
-
-fn print_answer(answer: Answer) {
-    match answer {
-        Answer::Refused(refusal) => print(number(refusal)),
-        _ => print(0),
-    }
-}
-
 fn print_open(open: OpenCount) {
+    print(board::open_number(open));
     match open {
-        OpenCount::Open(count) => {
-            print(0);
-            print(count as u64);
-        }
-        OpenCount::Refused(refusal) => print(number(refusal)),
+        OpenCount::Open(count) => print(count as u64),
+        OpenCount::Refused(_) => {}
     }
 }
 
 fn begin(board: Board, me: usize, call: Call, values: [u64; 4], mem: &[u64]) {
     let answered = board::begin(board, me, call, values, mem);
     let answer = answered.answer;
-    print_answer(answer);
+    print(board::answer_number(answer));
 }
 
 // The three calls begun, the open count and a step, on one board.
@@ -75,7 +35,7 @@ fn serve(board: Board, case: Case, mem: &mut [u64]) {
     let open = board::open_count(board, me, &mem[..]);
     let stepped = board::step(board, me, mem);
     let answer = stepped.answer;
-    print_answer(answer);
+    print(board::answer_number(answer));
     print_open(open);
 }
 
@@ -95,7 +55,7 @@ fn on_words(f: usize, k: usize, case: Case, mem: &mut [u64]) {
     print(k as u64);
     let made = board::set_up(s, mem);
     let start = made.start;
-    print_start(start);
+    print(board::start_number(start));
     write(address, case.word, mem);
     let mut board = made.board;
     board.settings = s;

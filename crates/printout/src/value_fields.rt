@@ -2,14 +2,12 @@
 ghost use mathlib.Core.Path.{_≡_};
 ghost use Prim.Native.Nat.{_+_, _≤_};
 ghost use lib.ListN.{length, take};
-ghost use Rattle.word.specs.Refusals.{number};
 ghost use Rattle.rules.specs.Answers.{numbersOf};
 ghost use Rattle.writing.specs.Line.{afterComma, rest};
 ghost use Rattle.writing.specs.Put.{Put};
 ghost use Rattle.printout.specs.Row.{valueField, valueFields};
 use record::at_most_four;
 use rules::Answer;
-use word::Refusal;
 use writing::put;
 use writing::put_number;
 
@@ -17,25 +15,6 @@ use writing::put_number;
 struct Numbers {
     list: [u64; 4],
     count: usize,
-}
-
-fn refusal_number(refusal: Refusal) -> u64
-    ensures { λ r. ⌜ r ≡ number refusal ⌝ }
-{
-    match refusal {
-        Refusal::SettingOutsideSizes => 1,
-        Refusal::MemoryTooShort => 2,
-        Refusal::NotInGoodForm => 3,
-        Refusal::NoSuchProcess => 4,
-        Refusal::NoSuchVariable => 5,
-        Refusal::CallInProgress => 6,
-        Refusal::NoOpenSequence => 7,
-        Refusal::ValueTooGreat => 8,
-        Refusal::ProcessIdle => 9,
-        Refusal::RecordNotInForm => 10,
-        Refusal::FieldNotInForm => 11,
-        Refusal::TooManyRecords => 12,
-    }
 }
 
 fn numbers_of(answer: Answer, w: usize, values: [u64; 4]) -> Numbers
@@ -51,7 +30,7 @@ fn numbers_of(answer: Answer, w: usize, values: [u64; 4]) -> Numbers
             count: 1,
         },
         Answer::Refused(refusal) => Numbers {
-            list: [refusal_number(refusal), 0, 0, 0],
+            list: [refusal.number(), 0, 0, 0],
             count: 1,
         },
         Answer::Begun => Numbers {

@@ -1,10 +1,11 @@
--- What document 01's printout says of each answer: its word, and the numbers that stand in the value fields.
+-- What document 01's printout says of each answer: its word, and the numbers that stand in the value fields. And the number
+-- and values of what the entry points answer.
 use mathlib.Core.List.{List, [], _∷_}
 use Prim.Native.Nat.{ℕ}
 use lib.ListN.{take}
-use Rattle.word.specs.Refusals.{number}
+use Rattle.word.specs.Refusals.{number, Told, refused, accepted}
 use Rattle.rules.specs.Text.{ascii}
-use Rattle.rules.specs.Types.{Answer, Begun, Busy, Value, Witness, Yes, No, AnswerRefused}
+use Rattle.rules.specs.Types.{Answer, Begun, Busy, Value, Witness, Yes, No, AnswerRefused, Start, Ready, StartRefused, OpenCount, Open, CountRefused}
 
 abbrev pub answerWord : Answer → List ℕ
 answerWord Begun = ascii "begun"
@@ -24,3 +25,22 @@ numbersOf Begun w values = []
 numbersOf Busy w values = []
 numbersOf Yes w values = []
 numbersOf No w values = []
+
+-- the number of a refused answer, and 0 where it is not refused
+abbrev pub answerNumber : Answer → ℕ
+answerNumber (AnswerRefused refusal) = number refusal
+answerNumber Begun = 0
+answerNumber Busy = 0
+answerNumber Value = 0
+answerNumber (Witness process) = 0
+answerNumber Yes = 0
+answerNumber No = 0
+
+-- a set-up that stands has no values; an open count is one
+abbrev pub startTold : Start → Told
+startTold Ready = accepted []
+startTold (StartRefused refusal) = refused refusal
+
+abbrev pub openTold : OpenCount → Told
+openTold (Open count) = accepted (count ∷ [])
+openTold (CountRefused refusal) = refused refusal

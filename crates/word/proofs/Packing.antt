@@ -1,15 +1,36 @@
--- Packing and unpacking undo each other, as the rules of the entry points say them. Assumes nothing.
+-- Packing and unpacking tell document 01's numbers, and undo each other, as the rules of the entry points say them. Assumes nothing.
 use mathlib.Core.Path.{_≡_, refl, sym, ap, _∙_}
 use mathlib.Core.Bool.{Bool, true, false, cond, _&&_}
+use mathlib.Core.List.{[], _∷_}
 use Prim.Native.Nat.{ℕ, _^_, _<_}
 use borrow.Author.Tests.{leb-true, ltb-true, lt-ltb}
 use lib.Dec.{leb, ltb}
 use Rattle.word.proofs.Laws.{tag-word, value-word, word-parts, value-lt, tag-lt}
-use Rattle.word.specs.Packing.{packRule, unpackRule}
+use Rattle.word.specs.Packing.{packRule, unpackRule, packedTold, unpackedTold}
+use Rattle.word.specs.Statements.{PackingTold}
 use Rattle.word.specs.Word.{bitsFit, tagLimit, valueLimit, word, tagOf, valueOf}
 use Rattle.word.specs.declared.Packed.the-variants.{Word, Refused as NotPacked}
 use Rattle.word.specs.declared.Refusal.the-variants.{SettingOutsideSizes, ValueTooGreat}
 use Rattle.word.specs.declared.Unpacked.the-variants.{Parts, Refused as NotUnpacked}
+
+pub told : PackingTold
+told =
+    record {
+      packing = λ b tag value. packing (bitsFit b) (ltb tag (tagLimit b) && ltb value (valueLimit b)) (word b tag value);
+      unpacking = λ b w. unpacking (bitsFit b) (tagOf b w) (valueOf b w);
+    }
+  where
+    packing : (stands fits : Bool) (w : ℕ)
+        → packedTold (cond stands (cond fits (Word w) (NotPacked ValueTooGreat)) (NotPacked SettingOutsideSizes))
+        ≡ cond stands (cond fits (0, w ∷ []) (8, [])) (1, [])
+    packing true true w = refl
+    packing true false w = refl
+    packing false fits w = refl
+
+    unpacking : (stands : Bool) (tag value : ℕ)
+        → unpackedTold (cond stands (Parts tag value) (NotUnpacked SettingOutsideSizes)) ≡ cond stands (0, tag ∷ value ∷ []) (1, [])
+    unpacking true tag value = refl
+    unpacking false tag value = refl
 
 -- unpacking a packed word gives its parts
 pub packed-unpacks : (b tag value w : ℕ) → packRule b tag value ≡ Word w → unpackRule b w ≡ Parts tag value

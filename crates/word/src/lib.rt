@@ -5,6 +5,8 @@ ghost use Prim.Native.Nat.{_≤_, _<_, _^_};
 ghost use Rattle.word.specs.Word.{tagLimit, valueLimit, word, tagOf, valueOf, nextTag, previousTag};
 ghost use Rattle.word.specs.Packing.{packRule, unpackRule};
 
+mod numbers; // numbers.rt: the number of each refusal and answer
+
 // Document 01's refusals, in the order of their numbers; `specs/Refusals.antt` gives each its number.
 pub enum Refusal {
     SettingOutsideSizes,

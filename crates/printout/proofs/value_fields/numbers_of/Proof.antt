@@ -18,8 +18,8 @@ enum-known-answer c = search needs
 enum-known-answer-2 : tie.Need-enum-known-answer-2
 enum-known-answer-2 c = search needs
 
-refusal-number-requires : tie.Need-refusal-number-requires
-refusal-number-requires c κs = search needs
+number-requires : tie.Need-number-requires
+number-requires c κs = search needs
 
 enum-told-2 : tie.Need-enum-told-2
 enum-told-2 c = search needs
@@ -43,7 +43,7 @@ returns-2 : tie.Need-returns-2
 returns-2 c = (omega arith, refl, rw (c .before .answer .given .1) refl)
 
 returns-3 : tie.Need-returns-3
-returns-3 c = (omega arith, refl, rw (c .before .before .answer2 .given .1, c .refusal-number .ensures) refl)
+returns-3 c = (omega arith, refl, rw (c .before .before .answer2 .given .1, c .number .ensures) refl)
 
 returns-4 : tie.Need-returns-4
 returns-4 c = search needs
@@ -65,7 +65,7 @@ numbers-of-spec =
     at-most-four-requires
     enum-known-answer
     enum-known-answer-2
-    refusal-number-requires
+    number-requires
     enum-told-2
     enum-told-3
     enum-told-4
