@@ -10,8 +10,8 @@ pub use Rattle.rules.proofs.Cases.RefusalOrder.{Order, in-order, Values
 pub use Rattle.rules.proofs.Cases.FormCases.{ClauseLimits, every-clause}
 -- each address is among the words used, and different places have different addresses
 pub use Rattle.rules.proofs.Sizes.Addresses.{used-most, header-in, segment-in, announce-in, header-header, segment-segment, header-segment, header-announce, segment-announce, announce-announce}
--- packing and unpacking undo each other
-pub use Rattle.word.proofs.Packing.{packed-unpacks, unpacked-packs}
+-- packing and unpacking tell document 01's numbers and values, and undo each other
+pub use Rattle.word.proofs.Packing.{told, undone, packed-unpacks, unpacked-packs}
 -- packing takes b, tag and value up to their limits, and refuses what is past them
 pub use Rattle.word.proofs.Cases.{Limits, limits}
 -- the tag after the greatest is 0, and the tag before 0 is the greatest; next and previous tag undo each other

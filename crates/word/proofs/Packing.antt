@@ -7,7 +7,7 @@ use borrow.Author.Tests.{leb-true, ltb-true, lt-ltb}
 use lib.Dec.{leb, ltb}
 use Rattle.word.proofs.Laws.{tag-word, value-word, word-parts, value-lt, tag-lt}
 use Rattle.word.specs.Packing.{packRule, unpackRule, packedTold, unpackedTold}
-use Rattle.word.specs.Statements.{PackingTold}
+use Rattle.word.specs.Statements.{PackingTold, PackingUndone}
 use Rattle.word.specs.Word.{bitsFit, tagLimit, valueLimit, word, tagOf, valueOf}
 use Rattle.word.specs.declared.Packed.the-variants.{Word, Refused as NotPacked}
 use Rattle.word.specs.declared.Refusal.the-variants.{SettingOutsideSizes, ValueTooGreat}
@@ -68,3 +68,6 @@ unpacked-packs b tag value w h = go (leb 4 b) (leb b 48) refl
         rw (← high, ← low, tag-fits, value-fits, word-parts b w)
     go true false f e = cc
     go false most f e = cc
+
+pub undone : PackingUndone
+undone = record { packed-unpacks = packed-unpacks; unpacked-packs = unpacked-packs }
