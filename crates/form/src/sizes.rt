@@ -2,25 +2,14 @@
 ghost use mathlib.Core.Path.{_≡_};
 ghost use Rattle.rules.specs.Bounds.{Sized};
 ghost use Rattle.rules.specs.Sizes.{between, segmentsFit, settingsFit, wordsUsed};
-ghost use Rattle.word.specs.Word.{bitsFit};
 use rules::Kind;
 use rules::Settings;
-use word::Layout;
 
 fn between(least: usize, most: usize, k: usize) -> bool
     ensures { λ r. ⌜ r ≡ between least most k ⌝ }
 {
     if least <= k {
         return k <= most;
-    }
-    false
-}
-
-fn bits_fit(bits: u64) -> bool
-    ensures { λ r. ⌜ r ≡ bitsFit bits ⌝ }
-{
-    if Layout::LEAST_BITS <= bits {
-        return bits <= Layout::MOST_BITS;
     }
     false
 }
@@ -40,7 +29,7 @@ pub fn settings_fit(s: Settings) -> bool
     let kind = s.kind;
     let processes = between(1, 16, s.n);
     let variables = between(1, 16, s.t);
-    let bits = bits_fit(s.layout.bits);
+    let bits = s.layout.stands();
     let segments = segments_fit(kind, s.w);
     processes & variables & bits & segments
 }

@@ -1,11 +1,23 @@
 -- Facts about words, each proved once over b. Assumes nothing.
-use mathlib.Core.Path.{_≡_, sym, ap, _∙_, subst}
+use mathlib.Core.Path.{_≡_, refl, sym, ap, _∙_, subst}
+use mathlib.Core.Bool.{Bool, true, false, _&&_}
 use Prim.Native.Nat.{ℕ, _+_, _-_, _*_, _%_, _^_, _≤_, _<_}
 use native.Mathlib.Nat.{zero-add, mod-add-mod, add-mod-right, sub-add-cancel, mod-eq-of-lt, mod-lt, mod-self}
 use native.Mathlib.Omega.{arith}
 use lib.Arith.{digits-lt}
+use lib.Dec.{leb}
 use lib.Pow.{pow-pos, high, low, split, mod-mod-pow, pow-add, shr-lt}
-use Rattle.word.specs.Word.{word, tagOf, valueOf, nextTag, previousTag, tagLimit, valueLimit}
+use borrow.Author.Tests.{leb-true}
+use Rattle.word.specs.Word.{bitsFit, word, tagOf, valueOf, nextTag, previousTag, tagLimit, valueLimit}
+
+-- tag bits that stand are from 4 to 48
+pub in-range : (b : ℕ) → bitsFit b ≡ true → (4 ≤ b) × (b ≤ 48)
+in-range b = go (leb 4 b) (leb b 48) refl refl
+  where
+    go : (least most : Bool) → leb 4 b ≡ least → leb b 48 ≡ most → (least && most) ≡ true → (4 ≤ b) × (b ≤ 48)
+    go true true e f stands = (leb-true 4 b e, leb-true b 48 f)
+    go true false e f stands = let z : _≡_ {A = ℕ} 0 1 = cc in absurd (omega arith)
+    go false most e f stands = let z : _≡_ {A = ℕ} 0 1 = cc in absurd (omega arith)
 
 -- packing, then unpacking, gives tag and value back
 pub tag-word : (b t : ℕ) {v : ℕ} → v < valueLimit b → tagOf b (word b t v) ≡ t

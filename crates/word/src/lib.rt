@@ -2,7 +2,7 @@
 // layout; the value width is what is left of the word, and is said nowhere else.
 ghost use mathlib.Core.Path.{_≡_};
 ghost use Prim.Native.Nat.{_≤_, _<_, _^_};
-ghost use Rattle.word.specs.Word.{tagLimit, valueLimit, word, tagOf, valueOf, nextTag, previousTag};
+ghost use Rattle.word.specs.Word.{bitsFit, tagLimit, valueLimit, word, tagOf, valueOf, nextTag, previousTag};
 ghost use Rattle.word.specs.Packing.{packRule, unpackRule};
 
 mod numbers; // numbers.rt: the number of each refusal and answer
@@ -51,6 +51,17 @@ impl Layout {
     pub const MOST_BITS: u64 = 48;
 
     pub const WORD_BITS: u64 = 64;
+
+    // Tag bits b, 4 to 48.
+    pub fn stands(self) -> bool
+        ensures { λ r. ⌜ r ≡ bitsFit (self .bits) ⌝ }
+    {
+        let bits = self.bits;
+        if Layout::LEAST_BITS <= bits {
+            return bits <= Layout::MOST_BITS;
+        }
+        false
+    }
 
     // The first number that is no tag.
     pub fn tag_limit(self) -> u64
@@ -106,11 +117,7 @@ impl Layout {
     pub fn pack(self, tag: u64, value: u64) -> Packed
         ensures { λ r. ⌜ r ≡ packRule (self .bits) tag value ⌝ }
     {
-        let bits = self.bits;
-        if bits < Layout::LEAST_BITS {
-            return Packed::Refused(Refusal::SettingOutsideSizes);
-        }
-        if bits > Layout::MOST_BITS {
+        if !self.stands() {
             return Packed::Refused(Refusal::SettingOutsideSizes);
         }
         if tag >= self.tag_limit() {
@@ -125,11 +132,7 @@ impl Layout {
     pub fn unpack(self, w: u64) -> Unpacked
         ensures { λ r. ⌜ r ≡ unpackRule (self .bits) w ⌝ }
     {
-        let bits = self.bits;
-        if bits < Layout::LEAST_BITS {
-            return Unpacked::Refused(Refusal::SettingOutsideSizes);
-        }
-        if bits > Layout::MOST_BITS {
+        if !self.stands() {
             return Unpacked::Refused(Refusal::SettingOutsideSizes);
         }
         let tag = self.tag_of(w);

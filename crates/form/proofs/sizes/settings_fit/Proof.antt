@@ -10,8 +10,8 @@ between-requires c κs = search needs
 between-requires-2 : tie.Need-between-requires-2
 between-requires-2 c κs = search needs
 
-bits-fit-requires : tie.Need-bits-fit-requires
-bits-fit-requires c κs = search needs
+stands-requires : tie.Need-stands-requires
+stands-requires c κs = search needs
 
 segments-fit-requires : tie.Need-segments-fit-requires
 segments-fit-requires c κs = search needs
@@ -21,9 +21,9 @@ unfolding sizes.settingsFit
 returns c =
     let three = c .before in
     let two = three .before in
-    rw (two .before .between .ensures, two .between2 .ensures, three .bits-fit .ensures, c .segments-fit .ensures)
+    rw (two .before .between .ensures, two .between2 .ensures, three .stands .ensures, c .segments-fit .ensures)
 
 pub settings-fit-spec : {M : Type 1} → statement M
 settings-fit-spec =
     tie.close
-    (tie.spec between-requires between-requires-2 bits-fit-requires segments-fit-requires returns)
+    (tie.spec between-requires between-requires-2 stands-requires segments-fit-requires returns)
