@@ -25,9 +25,9 @@ use rules::Settings;
 mod gathered; // gathered.rt: what Copy does with a segment's value, and how it ends
 
 // 2, 3: read the segment; is its tag the one before the header's?
-pub fn reads_segment(s: Settings, p: Process, c: Copy, mem: &mut [u64]) -> Moved
+pub fn reads_segment(s: Settings, p: Process, c: Copy, mem: &[u64]) -> Moved
     requires { ⌜ Sized s × (usedBy Many s ≤ length (now mem)) × (c .variable < s .t) × (c .segment < s .w) ⌝ }
-    ensures { λ r. ⌜ _≡_ {A = Step} (r, now (mem .exit)) (readsSegment s p c (now (mem .entry))) ⌝ }
+    ensures { λ r. ⌜ r ≡ readsSegment s p c (now (mem .entry)) .0 ⌝ }
 {
     let at = segment_at(s, c.variable, c.segment);
     let read = mem[at];
@@ -41,9 +41,9 @@ pub fn reads_segment(s: Settings, p: Process, c: Copy, mem: &mut [u64]) -> Moved
 }
 
 // 4: read the announced value of the header's process at this place.
-pub fn reads_announced(s: Settings, p: Process, c: Copy, read: u64, mem: &mut [u64]) -> Moved
+pub fn reads_announced(s: Settings, p: Process, c: Copy, read: u64, mem: &[u64]) -> Moved
     requires { ⌜ Sized s × (usedBy Many s ≤ length (now mem)) × (valueOf (bits s) (c .header) < s .n) × (c .segment < s .w) ⌝ }
-    ensures { λ r. ⌜ _≡_ {A = Step} (r, now (mem .exit)) (readsAnnounced s p c read (now (mem .entry))) ⌝ }
+    ensures { λ r. ⌜ r ≡ readsAnnounced s p c read (now (mem .entry)) .0 ⌝ }
 {
     let announcer = s.layout.value_of(c.header);
     let at = announce_at(s, announcer as usize, c.segment);
@@ -74,9 +74,9 @@ pub fn swaps_segment(
 }
 
 // 6, mended: one step more.
-pub fn reads_segment_again(s: Settings, p: Process, c: Copy, mem: &mut [u64]) -> Moved
+pub fn reads_segment_again(s: Settings, p: Process, c: Copy, mem: &[u64]) -> Moved
     requires { ⌜ Sized s × (usedBy Many s ≤ length (now mem)) × (c .variable < s .t) × (c .segment < s .w) ⌝ }
-    ensures { λ r. ⌜ _≡_ {A = Step} (r, now (mem .exit)) (readsSegmentAgain s p c (now (mem .entry))) ⌝ }
+    ensures { λ r. ⌜ r ≡ readsSegmentAgain s p c (now (mem .entry)) .0 ⌝ }
 {
     let at = segment_at(s, c.variable, c.segment);
     let again = mem[at];
@@ -85,9 +85,9 @@ pub fn reads_segment_again(s: Settings, p: Process, c: Copy, mem: &mut [u64]) ->
 }
 
 // 7: read the header; does it differ from the one Copy was given?
-pub fn reads_header(s: Settings, p: Process, c: Copy, value: u64, mem: &mut [u64]) -> Moved
+pub fn reads_header(s: Settings, p: Process, c: Copy, value: u64, mem: &[u64]) -> Moved
     requires { ⌜ Sized s × (usedBy Many s ≤ length (now mem)) × (c .variable < s .t) × (c .segment < s .w) ⌝ }
-    ensures { λ r. ⌜ _≡_ {A = Step} (r, now (mem .exit)) (readsHeader s p c value (now (mem .entry))) ⌝ }
+    ensures { λ r. ⌜ r ≡ readsHeader s p c value (now (mem .entry)) .0 ⌝ }
 {
     let at = header_at(s, c.variable);
     let header = mem[at];

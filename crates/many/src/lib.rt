@@ -4,7 +4,6 @@ ghost use mathlib.Core.Path.{_≡_};
 ghost use Prim.Native.Nat.{_≤_, _<_};
 ghost use lib.ListN.{length};
 ghost use Rattle.rules.specs.Bounds.{Sized};
-ghost use Rattle.rules.specs.Figure4.{Step};
 ghost use Rattle.rules.specs.Figure6.{loadReadsHeader, validateReadsHeader};
 ghost use Rattle.rules.specs.Sizes.{usedBy};
 ghost use Rattle.rules.specs.declared.Kind.the-variants.{Many};
@@ -25,9 +24,9 @@ use rules::Settings;
 pub mod store; // store.rt: the store's places, up to its Copy
 
 // 10, 11, 12: read the header, keep its tag, then Copy with that header, gathering values; the sequence opens.
-pub fn load_reads_header(s: Settings, p: Process, x: usize, mem: &mut [u64]) -> Moved
+pub fn load_reads_header(s: Settings, p: Process, x: usize, mem: &[u64]) -> Moved
     requires { ⌜ Sized s × (usedBy Many s ≤ length (now mem)) × (x < s .t) ⌝ }
-    ensures { λ r. ⌜ _≡_ {A = Step} (r, now (mem .exit)) (loadReadsHeader s p x (now (mem .entry))) ⌝ }
+    ensures { λ r. ⌜ r ≡ loadReadsHeader s p x (now (mem .entry)) .0 ⌝ }
 {
     let at = header_at(s, x);
     let header = mem[at];
@@ -44,9 +43,9 @@ pub fn load_reads_header(s: Settings, p: Process, x: usize, mem: &mut [u64]) -> 
 }
 
 // 13: read the header; yes exactly if its tag is the kept one.
-pub fn validate_reads_header(s: Settings, p: Process, x: usize, mem: &mut [u64]) -> Moved
+pub fn validate_reads_header(s: Settings, p: Process, x: usize, mem: &[u64]) -> Moved
     requires { ⌜ Sized s × (usedBy Many s ≤ length (now mem)) × (x < s .t) ⌝ }
-    ensures { λ r. ⌜ _≡_ {A = Step} (r, now (mem .exit)) (validateReadsHeader s p x (now (mem .entry))) ⌝ }
+    ensures { λ r. ⌜ r ≡ validateReadsHeader s p x (now (mem .entry)) .0 ⌝ }
 {
     let at = header_at(s, x);
     let header = mem[at];

@@ -21,9 +21,9 @@ use rules::Process;
 use rules::Settings;
 
 // 14, 15: read the header; if its tag is not the kept one, no, and the sequence closes.
-pub fn store_reads_header(s: Settings, p: Process, x: usize, mem: &mut [u64]) -> Moved
+pub fn store_reads_header(s: Settings, p: Process, x: usize, mem: &[u64]) -> Moved
     requires { ⌜ Sized s × (usedBy Many s ≤ length (now mem)) × (x < s .t) ⌝ }
-    ensures { λ r. ⌜ _≡_ {A = Step} (r, now (mem .exit)) (storeReadsHeader s p x (now (mem .entry))) ⌝ }
+    ensures { λ r. ⌜ r ≡ storeReadsHeader s p x (now (mem .entry)) .0 ⌝ }
 {
     let at = header_at(s, x);
     let header = mem[at];

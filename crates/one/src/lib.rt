@@ -18,9 +18,9 @@ use rules::Process;
 use rules::Settings;
 
 // Lines 1 and 2: read the word, keep it whole, answer the value; the sequence opens.
-pub fn load_reads_word(s: Settings, p: Process, x: usize, mem: &mut [u64]) -> Moved
+pub fn load_reads_word(s: Settings, p: Process, x: usize, mem: &[u64]) -> Moved
     requires { ⌜ Sized s × (x < s .t) × (s .t ≤ length (now mem)) ⌝ }
-    ensures { λ r. ⌜ _≡_ {A = Step} (r, now (mem .exit)) (loadReadsWord s p x (now (mem .entry))) ⌝ }
+    ensures { λ r. ⌜ r ≡ loadReadsWord s p x (now (mem .entry)) .0 ⌝ }
 {
     let word = mem[x];
     let value = s.layout.value_of(word);
@@ -30,9 +30,9 @@ pub fn load_reads_word(s: Settings, p: Process, x: usize, mem: &mut [u64]) -> Mo
 }
 
 // Line 3: read the word; yes exactly if it equals the keep-word.
-pub fn validate_reads_word(s: Settings, p: Process, x: usize, mem: &mut [u64]) -> Moved
+pub fn validate_reads_word(s: Settings, p: Process, x: usize, mem: &[u64]) -> Moved
     requires { ⌜ Sized s × (x < s .t) × (s .t ≤ length (now mem)) ⌝ }
-    ensures { λ r. ⌜ _≡_ {A = Step} (r, now (mem .exit)) (validateReadsWord s p x (now (mem .entry))) ⌝ }
+    ensures { λ r. ⌜ r ≡ validateReadsWord s p x (now (mem .entry)) .0 ⌝ }
 {
     let kept = kept_of(x, p);
     if mem[x] == kept {

@@ -1,18 +1,24 @@
--- What good form gives at each place is what the place's function requires; and a step is that of the place. Assumes nothing.
-use mathlib.Core.Path.{_≡_, sym, ap, _∙_}
-use mathlib.Core.Bool.{true}
+-- What good form gives at each place is what the place's function requires; and a step is that of the place, where it only reads too.
+-- Assumes nothing.
+use mathlib.Core.Path.{_≡_, refl, sym, ap, _∙_}
+use mathlib.Core.Bool.{Bool, true, false, cond}
 use mathlib.Core.List.{List}
 use Prim.Native.Nat.{ℕ, _≤_, _<_}
+use lib.Dec.{eqb}
 use lib.ListN.{getD}
 use native.Mathlib.Omega.{arith}
-use Rattle.word.specs.Word.{valueOf, valueLimit}
+use Rattle.word.specs.Word.{tagOf, valueOf, valueLimit, previousTag}
 use Rattle.rules.specs.Bounds.{Sized}
 use Rattle.rules.specs.Figure4.{Step}
+use Rattle.rules.specs.Figure6.{saving, copyOn, copyCutShort}
 use Rattle.rules.specs.GoodForm.{onePlace, manyPlace, headerHeld, copyHeld, processFits}
-use Rattle.rules.specs.Sizes.{bits, wordsUsed, usedBy}
+use Rattle.rules.specs.Processes.{closing, keptOf, goesOn, ends}
+use Rattle.rules.specs.Sizes.{bits, wordsUsed, usedBy, headerOf, segmentOf}
 use Rattle.rules.specs.Steps.{stepFrom, processStep}
+use Rattle.rules.specs.declared.Answer.the-variants.{No}
 use Rattle.rules.specs.declared.Copy.{Copy}
 use Rattle.rules.specs.declared.Kind.the-variants.{Many}
+use Rattle.rules.specs.declared.Moved.{Moved}
 use Rattle.rules.specs.declared.Place.{Place}
 use Rattle.rules.specs.declared.Place.the-variants.{LoadReadsWord, ValidateReadsWord, StoreSwapsWord, LoadReadsHeader, ValidateReadsHeader, StoreReadsHeader, StoreAnnounces, StoreSwapsHeader, ReadsSegment, ReadsAnnounced, SwapsSegment, ReadsSegmentAgain, ReadsHeader}
 use Rattle.rules.specs.declared.Process.{Process}
@@ -120,3 +126,39 @@ pub step-from :
     → step ≡ processStep s p me words
 unfolding processStep
 step-from s p me words e q = q ∙ ap (λ (l : Place). stepFrom l s p me words) (sym e)
+
+-- from these places a step only reads: the words after it are those before
+abbrev pub OnlyReads : Place → Type 0
+OnlyReads place = (s : Settings) (p : Process) (me : ℕ) (words : List ℕ) → stepFrom place s p me words .1 ≡ words
+
+either : (test : Bool) (one two : Moved) (words : List ℕ) → cond {A = Step} test (one, words) (two, words) .1 ≡ words
+either true one two words = refl
+either false one two words = refl
+
+pub store-only-reads : (x : ℕ) → OnlyReads (StoreReadsHeader x)
+store-only-reads x s p me words =
+    let header = headerOf s x words in
+    either (eqb (tagOf (bits s) header) (keptOf x p)) (goesOn (StoreAnnounces x header 0) p) (ends No (closing x p)) words
+
+pub segment-only-read : (c : Copy) → OnlyReads (ReadsSegment c)
+segment-only-read c s p me words =
+    let read = segmentOf s (c .variable) (c .segment) words in
+    either
+    (eqb (tagOf (bits s) read) (previousTag (bits s) (tagOf (bits s) (c .header))))
+    (goesOn (ReadsAnnounced c read) p)
+    (goesOn (ReadsHeader c (valueOf (bits s) read)) p)
+    words
+
+pub header-only-read : (c : Copy) (value : ℕ) → OnlyReads (ReadsHeader c value)
+header-only-read c value s p me words =
+    let header = headerOf s (c .variable) words in
+    either (eqb header (c .header)) (copyOn s c (saving c value p)) (copyCutShort s c header p) words
+
+-- .. so that it is settled by the process after it
+pub read-from :
+    (s : Settings) (p : Process) (me : ℕ) (words : List ℕ) {place : Place} {moved : Moved}
+    → p .place ≡ place
+    → OnlyReads place
+    → moved ≡ stepFrom place s p me words .0
+    → _≡_ {A = Step} (moved, words) (processStep s p me words)
+read-from s p me words e same q = step-from s p me words e (λ i. (q i, sym (same s p me words) i))

@@ -87,18 +87,18 @@ pub fn process_step(s: Settings, p: Process, me: usize, mem: &mut [u64]) -> Move
     let place = p.place;
     match place {
         Place::Idle => ends(Answer::Refused(Refusal::ProcessIdle), p),
-        Place::LoadReadsWord(x) => load_reads_word(s, p, x, mem),
-        Place::ValidateReadsWord(x) => validate_reads_word(s, p, x, mem),
+        Place::LoadReadsWord(x) => load_reads_word(s, p, x, &mem[..]),
+        Place::ValidateReadsWord(x) => validate_reads_word(s, p, x, &mem[..]),
         Place::StoreSwapsWord(x) => store_swaps_word(s, p, x, mem),
-        Place::LoadReadsHeader(x) => load_reads_header(s, p, x, mem),
-        Place::ValidateReadsHeader(x) => validate_reads_header(s, p, x, mem),
-        Place::StoreReadsHeader(x) => store_reads_header(s, p, x, mem),
+        Place::LoadReadsHeader(x) => load_reads_header(s, p, x, &mem[..]),
+        Place::ValidateReadsHeader(x) => validate_reads_header(s, p, x, &mem[..]),
+        Place::StoreReadsHeader(x) => store_reads_header(s, p, x, &mem[..]),
         Place::StoreAnnounces(x, header, i) => store_announces(s, p, me, x, header, i, mem),
         Place::StoreSwapsHeader(x, header) => store_swaps_header(s, p, me, x, header, mem),
-        Place::ReadsSegment(c) => reads_segment(s, p, c, mem),
-        Place::ReadsAnnounced(c, read) => reads_announced(s, p, c, read, mem),
+        Place::ReadsSegment(c) => reads_segment(s, p, c, &mem[..]),
+        Place::ReadsAnnounced(c, read) => reads_announced(s, p, c, read, &mem[..]),
         Place::SwapsSegment(c, read, announced) => swaps_segment(s, p, c, read, announced, mem),
-        Place::ReadsSegmentAgain(c) => reads_segment_again(s, p, c, mem),
-        Place::ReadsHeader(c, value) => reads_header(s, p, c, value, mem),
+        Place::ReadsSegmentAgain(c) => reads_segment_again(s, p, c, &mem[..]),
+        Place::ReadsHeader(c, value) => reads_header(s, p, c, value, &mem[..]),
     }
 }

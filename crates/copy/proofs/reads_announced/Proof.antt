@@ -12,8 +12,8 @@ announce-at-requires c κs = search needs
 mul-announced : tie.Need-mul-announced
 mul-announced c = search needs
 
-slice-read-announced : tie.Need-slice-read-announced
-slice-read-announced c = search needs
+shared-slice-read-announced : tie.Need-shared-slice-read-announced
+shared-slice-read-announced c = search needs
 
 goes-on-requires : tie.Need-goes-on-requires
 goes-on-requires c κs = search needs
@@ -28,6 +28,6 @@ reads-announced-spec =
     value-of-requires
     announce-at-requires
     mul-announced
-    slice-read-announced
+    shared-slice-read-announced
     goes-on-requires
     returns)

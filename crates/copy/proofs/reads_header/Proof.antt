@@ -11,8 +11,8 @@ header-at-requires c κs = search needs
 mul-header : tie.Need-mul-header
 mul-header c = search needs
 
-slice-read-header : tie.Need-slice-read-header
-slice-read-header c = search needs
+shared-slice-read-header : tie.Need-shared-slice-read-header
+shared-slice-read-header c = search needs
 
 saving-requires : tie.Need-saving-requires
 saving-requires c κs = search needs
@@ -39,7 +39,7 @@ reads-header-spec =
     (tie.spec
     header-at-requires
     mul-header
-    slice-read-header
+    shared-slice-read-header
     saving-requires
     copy-on-requires
     returns

@@ -12,8 +12,8 @@ segment-at-requires c κs = search needs
 mul-read : tie.Need-mul-read
 mul-read c = search needs
 
-slice-read-read : tie.Need-slice-read-read
-slice-read-read c = search needs
+shared-slice-read-read : tie.Need-shared-slice-read-read
+shared-slice-read-read c = search needs
 
 tag-of-requires : tie.Need-tag-of-requires
 tag-of-requires c κs = search needs
@@ -58,7 +58,7 @@ reads-segment-spec =
     (tie.spec
     segment-at-requires
     mul-read
-    slice-read-read
+    shared-slice-read-read
     tag-of-requires
     previous-tag-requires
     tag-of-requires-2

@@ -9,8 +9,8 @@ segment-at-requires c κs = search needs
 mul-again : tie.Need-mul-again
 mul-again c = search needs
 
-slice-read-again : tie.Need-slice-read-again
-slice-read-again c = search needs
+shared-slice-read-again : tie.Need-shared-slice-read-again
+shared-slice-read-again c = search needs
 
 value-of-requires : tie.Need-value-of-requires
 value-of-requires c κs = search needs
@@ -27,7 +27,7 @@ reads-segment-again-spec =
     (tie.spec
     segment-at-requires
     mul-again
-    slice-read-again
+    shared-slice-read-again
     value-of-requires
     goes-on-requires
     returns)

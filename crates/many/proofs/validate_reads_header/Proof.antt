@@ -10,8 +10,8 @@ header-at-requires c κs = search needs
 mul-header : tie.Need-mul-header
 mul-header c = search needs
 
-slice-read-header : tie.Need-slice-read-header
-slice-read-header c = search needs
+shared-slice-read-header : tie.Need-shared-slice-read-header
+shared-slice-read-header c = search needs
 
 tag-of-requires : tie.Need-tag-of-requires
 tag-of-requires c κs = search needs
@@ -45,7 +45,7 @@ validate-reads-header-spec =
     (tie.spec
     header-at-requires
     mul-header
-    slice-read-header
+    shared-slice-read-header
     tag-of-requires
     kept-of-requires
     ends-requires

@@ -6,8 +6,8 @@ use Rattle.one.proofs.load_reads_word.Tie as tie
 mul-word : tie.Need-mul-word
 mul-word c = search needs
 
-slice-read-word : tie.Need-slice-read-word
-slice-read-word c = search needs
+shared-slice-read-word : tie.Need-shared-slice-read-word
+shared-slice-read-word c = search needs
 
 value-of-requires : tie.Need-value-of-requires
 value-of-requires c κs = search needs
@@ -31,7 +31,7 @@ load-reads-word-spec =
     tie.close
     (tie.spec
     mul-word
-    slice-read-word
+    shared-slice-read-word
     value-of-requires
     keeping-requires
     opening-requires

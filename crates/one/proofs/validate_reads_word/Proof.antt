@@ -11,8 +11,8 @@ kept-of-requires c κs = search needs
 mul-if1 : tie.Need-mul-if1
 mul-if1 c = search needs
 
-slice-read-if1 : tie.Need-slice-read-if1
-slice-read-if1 c = search needs
+shared-slice-read-if1 : tie.Need-shared-slice-read-if1
+shared-slice-read-if1 c = search needs
 
 ends-requires : tie.Need-ends-requires
 ends-requires c κs = search needs
@@ -32,7 +32,7 @@ validate-reads-word-spec =
     (tie.spec
     kept-of-requires
     mul-if1
-    slice-read-if1
+    shared-slice-read-if1
     ends-requires
     returns
     ends-requires-2

@@ -1,6 +1,6 @@
 -- `process_step` meets its contract: each place has its function, which may be called there, and a step is that of
 -- its place. Assumes nothing.
-use mathlib.Core.Path.{_≡_, ap}
+use mathlib.Core.Path.{_≡_, refl, ap}
 use lib.ListN.{length}
 use borrow.Author.Needs.{needs}
 use Rattle.rules.specs.declared.Place.{Place}
@@ -22,6 +22,15 @@ from :
     → step ≡ stepFrom place (c .args .s) (c .args .p) (c .args .me) (c .args .mem .now)
     → step ≡ processStep (c .args .s) (c .args .p) (c .args .me) (c .args .mem .now)
 from c = places.step-from (c .args .s) (c .args .p) (c .args .me) (c .args .mem .now)
+
+-- .. also where it only reads
+from-read :
+    (c : tie.Start) {place : Place} {moved : Moved}
+    → c .args .p .place ≡ place
+    → places.OnlyReads place
+    → moved ≡ stepFrom place (c .args .s) (c .args .p) (c .args .me) (c .args .mem .now) .0
+    → _≡_ {A = Step} (moved, c .args .mem .now) (processStep (c .args .s) (c .args .p) (c .args .me) (c .args .mem .now))
+from-read c = places.read-from (c .args .s) (c .args .p) (c .args .me) (c .args .mem .now)
 
 enum-told : tie.Need-enum-told
 enum-told c = search needs
@@ -145,16 +154,16 @@ same-length c = search needs
 
 returns-2 : tie.Need-returns-2
 returns-2 c =
-    let at = c .before .before .before .before .before in
-    from (at .before .before .before) (at .place .given .1) (c .before .before .load-reads-word .ensures)
+    let at = c .before .before .before in
+    from-read (at .before .before .before) (at .place .given .1) (λ s p me words. refl) (c .load-reads-word .ensures)
 
 same-length-2 : tie.Need-same-length-2
 same-length-2 c = search needs
 
 returns-3 : tie.Need-returns-3
 returns-3 c =
-    let at = c .before .before .before .before .before in
-    from (at .before .before .before) (at .place2 .given .1) (c .before .before .validate-reads-word .ensures)
+    let at = c .before .before .before in
+    from-read (at .before .before .before) (at .place2 .given .1) (λ s p me words. refl) (c .validate-reads-word .ensures)
 
 same-length-3 : tie.Need-same-length-3
 same-length-3 c = search needs
@@ -169,24 +178,24 @@ same-length-4 c = search needs
 
 returns-5 : tie.Need-returns-5
 returns-5 c =
-    let at = c .before .before .before .before .before in
-    from (at .before .before .before) (at .place4 .given .1) (c .before .before .load-reads-header .ensures)
+    let at = c .before .before .before in
+    from-read (at .before .before .before) (at .place4 .given .1) (λ s p me words. refl) (c .load-reads-header .ensures)
 
 same-length-5 : tie.Need-same-length-5
 same-length-5 c = search needs
 
 returns-6 : tie.Need-returns-6
 returns-6 c =
-    let at = c .before .before .before .before .before in
-    from (at .before .before .before) (at .place5 .given .1) (c .before .before .validate-reads-header .ensures)
+    let at = c .before .before .before in
+    from-read (at .before .before .before) (at .place5 .given .1) (λ s p me words. refl) (c .validate-reads-header .ensures)
 
 same-length-6 : tie.Need-same-length-6
 same-length-6 c = search needs
 
 returns-7 : tie.Need-returns-7
 returns-7 c =
-    let at = c .before .before .before .before .before in
-    from (at .before .before .before) (at .place6 .given .1) (c .before .before .store-reads-header .ensures)
+    let at = c .before .before .before in
+    from-read (at .before .before .before) (at .place6 .given .1) (places.store-only-reads _) (c .store-reads-header .ensures)
 
 same-length-7 : tie.Need-same-length-7
 same-length-7 c = search needs
@@ -209,16 +218,16 @@ same-length-9 c = search needs
 
 returns-10 : tie.Need-returns-10
 returns-10 c =
-    let at = c .before .before .before .before .before in
-    from (at .before .before .before) (at .place9 .given .1) (c .before .before .reads-segment .ensures)
+    let at = c .before .before .before in
+    from-read (at .before .before .before) (at .place9 .given .1) (places.segment-only-read _) (c .reads-segment .ensures)
 
 same-length-10 : tie.Need-same-length-10
 same-length-10 c = search needs
 
 returns-11 : tie.Need-returns-11
 returns-11 c =
-    let at = c .before .before .before .before .before in
-    from (at .before .before .before) (at .place10 .given .1) (c .before .before .reads-announced .ensures)
+    let at = c .before .before .before in
+    from-read (at .before .before .before) (at .place10 .given .1) (λ s p me words. refl) (c .reads-announced .ensures)
 
 same-length-11 : tie.Need-same-length-11
 same-length-11 c = search needs
@@ -233,16 +242,16 @@ same-length-12 c = search needs
 
 returns-13 : tie.Need-returns-13
 returns-13 c =
-    let at = c .before .before .before .before .before in
-    from (at .before .before .before) (at .place12 .given .1) (c .before .before .reads-segment-again .ensures)
+    let at = c .before .before .before in
+    from-read (at .before .before .before) (at .place12 .given .1) (λ s p me words. refl) (c .reads-segment-again .ensures)
 
 same-length-13 : tie.Need-same-length-13
 same-length-13 c = search needs
 
 returns-14 : tie.Need-returns-14
 returns-14 c =
-    let at = c .before .before .before .before .before in
-    from (at .before .before .before) (at .place13 .given .1) (c .before .before .reads-header .ensures)
+    let at = c .before .before .before in
+    from-read (at .before .before .before) (at .place13 .given .1) (places.header-only-read _ _) (c .reads-header .ensures)
 
 pub process-step-spec : {M : Type 1} → statement M
 process-step-spec =
