@@ -17,7 +17,7 @@ pub struct Settings {
     pub layout: Layout,
 }
 
-// W values, and 0s from place W on.
+// Four values, of which a board uses the first W.
 pub type Values = [u64; 4];
 
 // A call of a variable. The values of a store lie beside it.
