@@ -1,4 +1,4 @@
--- Records that are in form and records that are not, a record's fields, and numbers, by computation from the definitions.
+-- Records that are in form and records that are not, a record's fields and where they lie, and numbers, by computation from the definitions.
 -- Assumes nothing.
 use Prim.Native.Nat.{_^_}
 use mathlib.Core.Path.{_≡_, refl}
@@ -7,6 +7,7 @@ use mathlib.Core.List.{[]}
 use Rattle.rules.specs.Text.{ascii}
 use Rattle.fields.specs.Form.{closed, bodyLength, bodyOf, noStray, commas, inForm}
 use Rattle.fields.specs.Fields.{upToComma, pastComma, partOf, fieldOf}
+use Rattle.fields.specs.Spans.{startOf, toComma, spanOf}
 use Rattle.fields.specs.Number.{Spells, Blank, LeadingZero, NotADigit, TooGreat, allDigits, zeroLeads, valueFrom, numberCase}
 use Rattle.fields.specs.Decimal.{decimalIn, decimal}
 
@@ -38,6 +39,15 @@ fields-told : (fieldOf (ascii "0,SC,1,7,,,\r\n") 1 ≡ ascii "SC")
     × (fieldOf (ascii "0,SC,1,7,,,\r\n") 6 ≡ [])
 unfolding fieldOf partOf upToComma pastComma bodyOf bodyLength closed
 fields-told = (refl, refl, refl)
+
+-- a field lies between its commas, a blank one too; past the last there is none, at the body's end
+spans-told : (spanOf (ascii "0,SC,1,7,,,\r\n") 0 ≡ record { start = 0; end = 1 })
+    × (spanOf (ascii "0,SC,1,7,,,\r\n") 1 ≡ record { start = 2; end = 4 })
+    × (spanOf (ascii "0,SC,1,7,,,\r\n") 5 ≡ record { start = 10; end = 10 })
+    × (spanOf (ascii "0,SC,1,7,,,\r\n") 6 ≡ record { start = 11; end = 11 })
+    × (spanOf (ascii "0,SC,1,7,,,\r\n") 7 ≡ record { start = 11; end = 11 })
+unfolding spanOf startOf toComma bodyOf bodyLength closed
+spans-told = (refl, refl, refl, refl, refl)
 
 -- 0 is a number; nothing at all, 00 and 1a are none, and 2^64 is too great
 numbers-told : (numberCase (ascii "0") ≡ Spells 0)

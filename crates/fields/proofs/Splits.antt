@@ -17,24 +17,6 @@ pub drop-step : (s : List ℕ) (i : ℕ) → i < length s → drop i s ≡ getD 
 drop-step s i h = rw (add-one, drop-cons s i 0)
 
 module _ (s : List ℕ) (i : ℕ) (h : i < length s) where
-  pub up-to-comma : getD s i 0 ≡ 44 → upToComma (drop i s) ≡ []
-  unfolding upToComma
-  up-to-comma e = rw drop-step (simp (eq-eqb _ _ e))
-
-  pub up-to-other : (getD s i 0 ≡ 44 → ⊥) → length (upToComma (drop i s)) ≡ length (upToComma (drop (i + 1) s)) + 1
-  unfolding upToComma
-  up-to-other e = rw drop-step (simp (ne-eqb _ _ e, add-one))
-
-  pub part-comma : (k : ℕ) → (k ≡ 0 → ⊥) → getD s i 0 ≡ 44 → partOf (drop i s) k ≡ partOf (drop (i + 1) s) (k - 1)
-  unfolding partOf pastComma
-  part-comma zero n e = absurd (n refl)
-  part-comma (suc k) n e = let d : suc k - 1 ≡ k = omega arith in rw (drop-step, d) (simp (eq-eqb _ _ e))
-
-  pub part-other : (k : ℕ) → (k ≡ 0 → ⊥) → (getD s i 0 ≡ 44 → ⊥) → partOf (drop i s) k ≡ partOf (drop (i + 1) s) k
-  unfolding partOf pastComma
-  part-other zero n e = absurd (n refl)
-  part-other (suc k) n e = rw drop-step (simp (ne-eqb _ _ e))
-
   pub commas-comma : getD s i 0 ≡ 44 → commas (drop i s) ≡ 1 + commas (drop (i + 1) s)
   unfolding commas
   commas-comma e = rw drop-step (simp (eq-eqb _ _ e))
@@ -60,17 +42,10 @@ module _ (s : List ℕ) (i : ℕ) (h : length s ≤ i) where
   unfolding noStray
   stray-end = rw (drop-of-length-le s)
 
-  pub up-to-end : upToComma (drop i s) ≡ []
-  unfolding upToComma
-  up-to-end = rw (drop-of-length-le s)
-
 pub part-nil : (k : ℕ) → partOf [] k ≡ []
 unfolding partOf pastComma upToComma
 part-nil zero = refl
 part-nil (suc k) = part-nil k
-
-pub part-end : (s : List ℕ) (i k : ℕ) → length s ≤ i → partOf (drop i s) k ≡ []
-part-end s i k h = rw (drop-of-length-le s) (part-nil k)
 
 -- a part's bytes are the first of what it starts
 pub up-to-take : (s : List ℕ) → take (length (upToComma s)) s ≡ upToComma s

@@ -3,6 +3,7 @@
 mod number;
 mod parts;
 mod shape;
+mod spans;
 
 pub use number::Number;
 pub use number::number_at;
@@ -10,4 +11,7 @@ pub use number::read_number;
 pub use parts::blank_from;
 pub use parts::field;
 pub use shape::body;
+pub use shape::body_length;
 pub use shape::in_form;
+pub use spans::Span;
+pub use spans::field_span;

@@ -1,53 +1,18 @@
 // The fields of a record, each handed on as the part of the record that it occupies.
 ghost use mathlib.Core.Path.{_≡_};
-ghost use Prim.Native.Nat.{_+_, _≤_};
-ghost use lib.ListN.{length, drop};
-ghost use Rattle.fields.specs.Fields.{upToComma, partOf, fieldOf};
+ghost use Rattle.fields.specs.Spans.{spanOf, PartAt};
 ghost use Rattle.fields.specs.Blanks.{blankFrom};
 use super::shape::FIELDS;
-use super::shape::body;
+use super::spans::field_span;
 
-// Where part k starts: past the k-th comma, or at the end.
-fn start_of(inside: &[u8], k: usize) -> usize
-    ensures { λ r. ⌜ (r ≤ length (now (inside .entry))) × (upToComma (drop r (now (inside .entry))) ≡ partOf (now (inside .entry)) k) ⌝ }
-{
-    let mut i: usize = 0;
-    let mut left = k;
-    while i < inside.len() {
-        if left == 0 {
-            return i;
-        }
-        if inside[i] == b',' {
-            left -= 1;
-        }
-        i += 1;
-    }
-    i
-}
-
-// Where the part that starts at `start` ends: at the next comma, or at the end.
-fn end_of(inside: &[u8], start: usize) -> usize
-    requires { ⌜ start ≤ length (now inside) ⌝ }
-    ensures { λ r. ⌜ (start ≤ r) × (r ≤ length (now (inside .entry))) × (r ≡ start + length (upToComma (drop start (now (inside .entry))))) ⌝ }
-{
-    let mut i = start;
-    while i < inside.len() {
-        if inside[i] == b',' {
-            return i;
-        }
-        i += 1;
-    }
-    i
-}
-
-// Field k, from 0: the part of the record between two commas. Past the last field: an empty part.
+// Field k, from 0: the part of the record between two commas. Past the last field: an empty part at the body's end.
 pub fn field(bytes: &[u8], k: usize) -> &[u8]
-    ensures { λ r. ⌜ now r ≡ fieldOf (now (bytes .entry)) k ⌝ }
+    ensures { λ r. ⌜ PartAt (spanOf (now (bytes .entry)) k) (bytes .entry) r ⌝ }
 {
-    let inside = body(bytes);
-    let start = start_of(inside, k);
-    let end = end_of(inside, start);
-    &inside[start..end]
+    let span = field_span(bytes, k);
+    let start = span.start;
+    let end = span.end;
+    &bytes[start..end]
 }
 
 // Whether all fields from `from` on are blank.

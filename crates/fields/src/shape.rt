@@ -1,10 +1,10 @@
 // The form of a record (refusal 10), and its body: the record without the pair that closes it.
 ghost use mathlib.Core.Path.{_≡_};
 ghost use mathlib.Core.Bool.{_&&_};
-ghost use Prim.Native.Nat.{_+_, _≤_};
+ghost use Prim.Native.Nat.{_+_};
 ghost use lib.Dec.{eqb};
-ghost use lib.ListN.{length};
-ghost use Rattle.fields.specs.Form.{closed, bodyLength, bodyOf, stray, noStray, commas, inForm};
+ghost use Rattle.fields.specs.Form.{closed, bodyLength, stray, noStray, commas, inForm};
+ghost use Rattle.fields.specs.Spans.{bodySpan, PartAt};
 
 // A record with its closing pair has at most so many bytes.
 const MOST_BYTES: usize = 512;
@@ -26,8 +26,9 @@ fn is_closed(bytes: &[u8]) -> bool
     bytes[size - 1] == b'\n'
 }
 
-fn body_length(bytes: &[u8]) -> usize
-    ensures { λ r. ⌜ (r ≡ bodyLength (now (bytes .entry))) × (r ≤ length (now (bytes .entry))) ⌝ }
+// Where the body ends; it starts with the record.
+pub fn body_length(bytes: &[u8]) -> usize
+    ensures { λ r. ⌜ r ≡ bodyLength (now (bytes .entry)) ⌝ }
 {
     if is_closed(bytes) {
         bytes.len() - 2
@@ -38,7 +39,7 @@ fn body_length(bytes: &[u8]) -> usize
 
 // A record without its closing pair.
 pub fn body(bytes: &[u8]) -> &[u8]
-    ensures { λ r. ⌜ now r ≡ bodyOf (now (bytes .entry)) ⌝ }
+    ensures { λ r. ⌜ PartAt (bodySpan (now (bytes .entry))) (bytes .entry) r ⌝ }
 {
     let size = body_length(bytes);
     &bytes[0..size]

@@ -5,6 +5,7 @@ use native.Mathlib.Omega.{arith}
 use lib.ListN.{length}
 use Rattle.fields.specs.Blanks.{blankFrom}
 use Rattle.fields.proofs.BlankFields.{blank-here, blank-not, blank-end}
+use Rattle.fields.proofs.FieldSpans.{span-bytes}
 use Rattle.fields.proofs.parts.blank_from.Statement.{statement}
 use Rattle.fields.proofs.parts.blank_from.Tie as tie
 
@@ -24,7 +25,8 @@ returns : tie.Need-returns Inv-loop μ-loop
 returns c =
     let p = c .before .before .before in
     let s = p .before .before .args .bytes .now in
-    sym (sym (p .loop .inv) ∙ blank-not s (p .loop .k) (omega arith) (λ e. c .if1 .taken (ap length (c .before .field .ensures) ∙ e)))
+    let told = c .before .field .ensures .bytes ∙ span-bytes s (p .loop .k) in
+    sym (sym (p .loop .inv) ∙ blank-not s (p .loop .k) (omega arith) (λ e. c .if1 .taken (ap length told ∙ e)))
 
 add-k : tie.Need-add-k Inv-loop μ-loop
 add-k c = omega arith
@@ -36,7 +38,8 @@ loop-again : tie.Need-loop-again Inv-loop μ-loop
 loop-again c =
     let p = c .before .before .before in
     let s = p .before .before .args .bytes .now in
-    sym (blank-here s (p .loop .k) (omega arith) (sym (ap length (c .before .field .ensures)) ∙ c .if1 .left)) ∙ p .loop .inv
+    let told = c .before .field .ensures .bytes ∙ span-bytes s (p .loop .k) in
+    sym (blank-here s (p .loop .k) (omega arith) (sym (ap length told) ∙ c .if1 .left)) ∙ p .loop .inv
 
 returns-2 : tie.Need-returns-2 Inv-loop μ-loop
 returns-2 c =

@@ -1,50 +1,32 @@
--- `field` meets its contract: the part from where field k starts to where it ends. Assumes nothing.
-use Prim.Native.Nat.{_-_}
-use mathlib.Core.Path.{_≡_, ap, _∙_}
+-- `field` meets its contract: the part of the record that the field's span tells. Assumes nothing.
+use mathlib.Core.Path.{refl, ap}
 use native.Mathlib.Omega.{arith}
-use lib.ListN.{length, drop}
-use Rattle.fields.specs.Fields.{upToComma, partOf, fieldOf}
-use Rattle.fields.proofs.Splits.{up-to-take}
+use Rattle.fields.specs.Spans.{bytesIn}
+use Rattle.fields.specs.declared.spans.Span.{Span}
+use Rattle.fields.proofs.FieldSpans.{span-forward, span-within}
 use borrow.Author.Needs.{needs}
 use Rattle.fields.proofs.parts.field.Statement.{statement}
 use Rattle.fields.proofs.parts.field.Tie as tie
 
-body-requires : tie.Need-body-requires
-body-requires c κs = search needs
-
-start-of-requires : tie.Need-start-of-requires
-start-of-requires c κs = search needs
-
-end-of-requires : tie.Need-end-of-requires
-end-of-requires c κs = search needs
+field-span-requires : tie.Need-field-span-requires
+field-span-requires c κs = search needs
 
 sub-result : tie.Need-sub-result
-sub-result c = search needs
+sub-result c = span-forward _ _ (c .field-span .ensures)
 
 part-result-start : tie.Need-part-result-start
-part-result-start c = search needs
+part-result-start c = span-forward _ _ (c .field-span .ensures)
 
 part-result-end : tie.Need-part-result-end
-part-result-end c = search needs
+part-result-end c = span-within _ _ (c .field-span .ensures)
 
 returns : tie.Need-returns
-unfolding fieldOf
 returns c =
-    let found = c .before .before in
-    let a = found .before .before .before .args in
-    let start = found .start-of .result in
-    let s = found .before .body .result .now in
-    let e : c .before .end-of .result - start ≡ length (upToComma (drop start s)) = omega arith in
-    rw e (up-to-take (drop start s) ∙ (found .start-of .ensures .1 ∙ ap (λ l. partOf l (a .k)) (found .before .body .ensures)))
+    let s = c .before .before .before .args .bytes .now in
+    let told = c .before .field-span .ensures in
+    let starts = ap (λ (r : Span). r .start) told in
+    record { bytes = ap (λ (r : Span). bytesIn r s) told; block = refl; offset = omega arith }
 
 pub field-spec : {M : Type 1} → statement M
 field-spec =
-    tie.close
-    (tie.spec
-    body-requires
-    start-of-requires
-    end-of-requires
-    sub-result
-    part-result-start
-    part-result-end
-    returns)
+    tie.close (tie.spec field-span-requires sub-result part-result-start part-result-end returns)

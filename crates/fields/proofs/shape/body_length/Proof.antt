@@ -19,13 +19,13 @@ returns : tie.Need-returns
 unfolding bodyLength
 returns c =
     let e = sym (c .before .is-closed .ensures) ∙ c .if1 .taken in
-    (simp e, omega arith)
+    simp e
 
 returns-2 : tie.Need-returns-2
 unfolding bodyLength
 returns-2 c =
     let e = sym (c .before .is-closed .ensures) ∙ c .if1 .left in
-    (simp e, omega arith)
+    simp e
 
 pub body-length-spec : {M : Type 1} → statement M
 body-length-spec = tie.close (tie.spec is-closed-requires sub-result returns returns-2)

@@ -3,6 +3,7 @@ use mathlib.Core.Path.{ap, sym, _∙_}
 use borrow.Author.Tests.{not-true, not-false}
 use Rattle.record.specs.Words.{actOf}
 use Rattle.record.specs.Entries.{scheduleOf}
+use Rattle.fields.proofs.FieldSpans.{span-bytes}
 use borrow.Author.Needs.{needs}
 use Rattle.record.proofs.entries.read_schedule.Statement.{statement}
 use Rattle.record.proofs.entries.read_schedule.Tie as tie
@@ -59,7 +60,7 @@ returns-3 c =
     let read = number .before .before in
     let formed = sym (read .before .before .in-form .ensures) ∙ not-false _ (read .before .if1 .left) in
     let process = sym (read .number-at .ensures) ∙ number .number .given .1 in
-    let act-read = sym (act .read-act .ensures ∙ ap actOf (act .before .field .ensures)) ∙ c .before .enum-told2 .given .1 in
+    let act-read = sym (act .read-act .ensures ∙ ap actOf (act .before .field .ensures .bytes ∙ span-bytes _ _)) ∙ c .before .enum-told2 .given .1 in
     c .refused3 .ensures ∙ rw (formed, process, act-read)
 
 read-rest-requires : tie.Need-read-rest-requires
@@ -73,7 +74,7 @@ returns-4 c =
     let read = number .before .before in
     let formed = sym (read .before .before .in-form .ensures) ∙ not-false _ (read .before .if1 .left) in
     let process = sym (read .number-at .ensures) ∙ number .number .given .1 in
-    let act-read = sym (act .read-act .ensures ∙ ap actOf (act .before .field .ensures)) ∙ c .before .before .known .given .1 in
+    let act-read = sym (act .read-act .ensures ∙ ap actOf (act .before .field .ensures .bytes ∙ span-bytes _ _)) ∙ c .before .before .known .given .1 in
     c .read-rest .ensures ∙ rw (formed, process, act-read)
 
 pub read-schedule-spec : {M : Type 1} → statement M

@@ -3,6 +3,7 @@ use mathlib.Core.Path.{ap, sym, _∙_}
 use borrow.Author.Tests.{not-true, not-false}
 use Rattle.record.specs.Words.{kindOf}
 use Rattle.record.specs.Setup.{settingsOf}
+use Rattle.fields.proofs.FieldSpans.{span-bytes}
 use borrow.Author.Needs.{needs}
 use Rattle.record.proofs.setup.read_settings.Statement.{statement}
 use Rattle.record.proofs.setup.read_settings.Tie as tie
@@ -45,7 +46,7 @@ returns-2 c =
     let kind = b .before .before in
     let n = kind .before .before in
     let formed = sym (n .before .before .in-form .ensures) ∙ not-false _ (n .before .if1 .left) in
-    let kind-read = kind .read-kind .ensures ∙ ap kindOf (kind .before .field .ensures) in
+    let kind-read = kind .read-kind .ensures ∙ ap kindOf (kind .before .field .ensures .bytes ∙ span-bytes _ _) in
     let t-read = b .before .number-at2 .ensures in
     let b-read = b .number-at3 .ensures in
     let w-read = c .before .before .number-at4 .ensures in
