@@ -1,5 +1,6 @@
 // Where the shared words of kind `many` lie: variable by variable, each header before its segments; then the announce
-// rows, process by process. Only these functions and the rules' Sizes.antt know the order of the words.
+// rows, process by process. Of the code only these functions know that order, and `words_used` of `form`, which counts the
+// words. In kind `one` a variable's word lies at the variable's number, and the crate `one` goes by that.
 ghost use mathlib.Core.Path.{_≡_};
 ghost use Prim.Native.Nat.{_<_};
 ghost use Rattle.rules.specs.Bounds.{Sized};

@@ -1,5 +1,5 @@
 -- Document 01, "Sizes": which settings stand, how many words they use, and where each shared word lies.
--- Only the address functions here know the order of the words.
+-- Of the rules only this file knows the order of the words: the address functions, and `usedBy`, which counts them.
 use mathlib.Core.Bool.{Bool, true, false, _&&_}
 use mathlib.Core.List.{List}
 use Prim.Native.Nat.{ℕ, _+_, _*_}
