@@ -1,6 +1,6 @@
 -- Laws of fields (Splits, BlankFields), of where they lie (FieldSpans) and of numbers (Numbers, Decimals); that the contracts of
 -- `field` and `body` settle the part (Settled), that a number written is read back (RoundTrip), that a record in form has seven
--- fields (SevenFields), and records computed (Cases).
+-- fields, one after the other (SevenFields), and records computed (Cases).
 pub mod Splits
 pub mod FieldSpans
 pub mod BlankFields

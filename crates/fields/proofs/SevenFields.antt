@@ -1,15 +1,18 @@
--- The fields of a record in form, joined by commas, are its body. Assumes nothing.
-use Prim.Native.Nat.{ℕ, zero, suc, _+_}
+-- The fields of a record in form, joined by commas, are its body, and they lie in it one after the other. Assumes nothing.
+use Prim.Native.Nat.{ℕ, zero, suc, _+_, _<_}
 use mathlib.Core.Path.{_≡_, refl, ap, sym, _∙_}
 use mathlib.Core.Bool.{Bool, true, false, cond}
 use mathlib.Core.List.{List, [], _∷_, _++_}
 use native.Mathlib.Omega.{arith}
 use lib.Dec.{eqb, leb}
-use lib.ListN.{length}
+use lib.ListN.{length, take, drop}
+use lib.Seq.{length-take-le}
 use borrow.Author.Tests.{eqb-true}
 use Rattle.fields.specs.Bytes.{comma}
-use Rattle.fields.specs.Form.{bodyOf, noStray, commas, inForm}
+use Rattle.fields.specs.Form.{bodyLength, bodyOf, noStray, commas, inForm}
 use Rattle.fields.specs.Fields.{upToComma, pastComma, partOf, fieldOf}
+use Rattle.fields.specs.Spans.{startOf, toComma, endFrom, spanOf}
+use Rattle.fields.proofs.FieldSpans.{start-zero, body-within}
 use Rattle.rules.proofs.Tests.{and-right}
 
 -- six commas part its seven fields
@@ -57,3 +60,58 @@ joined-parts (suc n) s e =
 pub seven-fields : (s : List ℕ) → inForm s ≡ true → joined (fieldOf s) 6 ≡ bodyOf s
 unfolding fieldOf
 seven-fields s e = joined-parts 6 (bodyOf s) (in-form-commas s e)
+
+-- one comma stands between a part's end and the next part's start
+next-part : (s : List ℕ) (k : ℕ) → k < commas s → startOf s (suc k) ≡ endFrom s (startOf s k) + 1
+unfolding commas startOf toComma
+next-part [] k h = absurd (let y : ⊥ = omega arith in y)
+next-part (x ∷ xs) zero h = by-test (eqb x 44) h (λ l. next-part xs 0 l)
+  where
+    by-test : (b : Bool) → 0 < cond b 1 0 + commas xs → (0 < commas xs → startOf xs 1 ≡ endFrom xs (startOf xs 0) + 1)
+        → suc (startOf xs (cond b 0 1)) ≡ 0 + cond b 0 (suc (toComma xs)) + 1
+    by-test true l rest = omega (arith, start-zero xs)
+    by-test false l rest =
+        let e = rest (omega arith) ∙ ap (λ (n : ℕ). endFrom xs n + 1) (start-zero xs) in
+        omega arith
+next-part (x ∷ xs) (suc k) h = by-test (eqb x 44) h (λ j l. next-part xs j l)
+  where
+    by-test : (b : Bool) → suc k < cond b 1 0 + commas xs → ((j : ℕ) → j < commas xs → startOf xs (suc j) ≡ endFrom xs (startOf xs j) + 1)
+        → suc (startOf xs (cond b (suc k) (suc (suc k))))
+        ≡ suc (startOf xs (cond b k (suc k))) + toComma (drop (startOf xs (cond b k (suc k))) xs) + 1
+    by-test true l rest = let e = rest k (omega arith) in omega arith
+    by-test false l rest = let e = rest (suc k) (omega arith) in omega arith
+
+-- the last part ends where all ends
+last-part : (s : List ℕ) (k : ℕ) → commas s ≡ k → endFrom s (startOf s k) ≡ length s
+unfolding commas startOf toComma
+last-part [] k h = omega arith
+last-part (x ∷ xs) zero h = by-test (eqb x 44) h (λ l. last-part xs 0 l)
+  where
+    by-test : (b : Bool) → cond b 1 0 + commas xs ≡ 0 → (commas xs ≡ 0 → endFrom xs (startOf xs 0) ≡ length xs)
+        → 0 + cond b 0 (suc (toComma xs)) ≡ suc (length xs)
+    by-test true l rest = absurd (let y : ⊥ = omega arith in y)
+    by-test false l rest =
+        let e = sym (ap (endFrom xs) (start-zero xs)) ∙ rest (omega arith) in
+        omega arith
+last-part (x ∷ xs) (suc k) h = by-test (eqb x 44) h (λ j l. last-part xs j l)
+  where
+    by-test : (b : Bool) → cond b 1 0 + commas xs ≡ suc k → ((j : ℕ) → commas xs ≡ j → endFrom xs (startOf xs j) ≡ length xs)
+        → suc (startOf xs (cond b k (suc k))) + toComma (drop (startOf xs (cond b k (suc k))) xs) ≡ suc (length xs)
+    by-test true l rest = let e = rest k (omega arith) in omega arith
+    by-test false l rest = let e = rest (suc k) (omega arith) in omega arith
+
+-- the seven fields begin with the record and end with its body, and one byte, the comma, parts each from the next
+pub record EndToEnd (s : List ℕ) : Type 0 where
+  pub first : spanOf s 0 .start ≡ 0
+  pub next : (k : ℕ) → k < 6 → spanOf s (suc k) .start ≡ spanOf s k .end + 1
+  pub last : spanOf s 6 .end ≡ bodyLength s
+
+pub end-to-end : (s : List ℕ) → inForm s ≡ true → EndToEnd s
+unfolding spanOf bodyOf
+end-to-end s e =
+    let six = in-form-commas s e in
+    record {
+      first = start-zero (bodyOf s);
+      next = λ k h. next-part (bodyOf s) k (omega arith);
+      last = last-part (bodyOf s) 6 six ∙ length-take-le (bodyLength s) s (body-within s);
+    }
