@@ -4,7 +4,7 @@ use Prim.Native.Nat.{ℕ, _+_, _-_, _≤_, _<_}
 use mathlib.Core.Path.{_≡_, refl, sym, ap, _∙_, subst}
 use mathlib.Core.Bool.{Bool, true, false}
 use mathlib.Core.List.{List}
-use lib.ListN.{length, drop}
+use lib.ListN.{length}
 use Rattle.word.specs.declared.Refusal.the-variants.{TooManyRecords}
 use Rattle.rules.specs.Bounds.{Sized}
 use Rattle.rules.specs.Processes.{processAt, putProcess}
@@ -19,12 +19,12 @@ use Rattle.record.specs.declared.entries.ScheduleRead.{ScheduleRead}
 use Rattle.printout.specs.Writing.{longestRow}
 use Rattle.answers.specs.Answering.{Answers}
 use Rattle.schedule.specs.Telling.{Tells, overOf, EndsWithRow}
-use Rattle.schedule.specs.Feeding.{Feeding, runOf, feeding, feedOf}
+use Rattle.schedule.specs.Feeding.{runOf, feeding, feedOf}
 use Rattle.schedule.specs.Gathering.{Held, bytesOf, gatherOf}
 use Rattle.answers.specs.Moves.{slotOf}
 use Rattle.answers.specs.Order.{InOrder}
 use Rattle.answers.specs.Run.{nobodysRow, mostRecords, recordTold}
-use Rattle.schedule.specs.Ready.{Ready}
+use Rattle.schedule.specs.Feeds.{Feeds}
 use Rattle.schedule.specs.declared.Fed.{Fed}
 use Rattle.schedule.specs.declared.Session.{Session}
 use Rattle.answers.specs.declared.Stage.the-variants.{Running, Over}
@@ -41,15 +41,12 @@ running board count held cr = record { stage = Running; board = board; count = c
 abbrev pub fedRunning : Board → ℕ → ℕ → Bool → ℕ → ℕ → Fed
 fedRunning board count held cr next len = record { session = running board count held cr; next = next; len = len }
 
--- what feeding ensures of what it returns
-abbrev pub Ensured : Fed → List ℕ → List ℕ → List ℕ → List ℕ → Feeding × List ℕ → Type 0
-Ensured r chunk line words out whole =
-    (_≡_ {A = Feeding × List ℕ} (feeding (r .session) line words out (r .len), drop (r .next) chunk) whole)
-    × (Ready (r .session) line words × (r .next ≤ length chunk))
-
-pub ensured : (r right : Fed) (chunk line words out : List ℕ) (whole : Feeding × List ℕ) → r ≡ right
-    → Ensured right chunk line words out whole → Ensured r chunk line words out whole
-ensured r right chunk line words out whole e k = subst (λ (x : Fed). Ensured x chunk line words out whole) (sym e) k
+-- what feeding leaves, of what it returns
+pub feeds-as : (r right : Fed) {session : Session} {chunk line words out line-after words-after out-after : List ℕ} {at len : ℕ} → r ≡ right
+    → Feeds session chunk at line words out len right line-after words-after out-after
+    → Feeds session chunk at line words out len r line-after words-after out-after
+feeds-as r right {session} {chunk} {line} {words} {out} {line-after} {words-after} {out-after} {at} {len} e k =
+    subst (λ (x : Fed). Feeds session chunk at line words out len x line-after words-after out-after) (sym e) k
 
 -- what answering on one process asks, from the order of the board
 pub record Served (s : Settings) (p : Process) (words : List ℕ) : Type 0 where

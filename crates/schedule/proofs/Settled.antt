@@ -36,8 +36,8 @@ same-place chunk next other within other-within left =
 pub feed-settles : Settles feed-kinds.ps feed-kinds.r (Fed × List ℕ × List ℕ × List ℕ)
     (λ κs r (_, (_, (_, (line, (mem, (out, _)))))). (r, now line, now mem, now out)) feed.Learnt
 feed-settles κs args r s e f one other =
-    let fed = one-outcome (one .0) (other .0) in
-    let next = same-place _ _ _ (one .1 .1) (other .1 .1) (ap (λ (x : Feeding × List ℕ). x .1) fed) in
+    let fed = one-outcome (one .fed) (other .fed) in
+    let next = same-place _ _ _ (one .within) (other .within) (ap (λ (x : Feeding × List ℕ). x .1) fed) in
     λ i. (
       record { session = sessionIn (fed i .0); next = next i; len = fed i .0 .len },
       fed i .0 .held .line,

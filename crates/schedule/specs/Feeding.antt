@@ -58,6 +58,11 @@ abbrev pub byteGathered : Feeding → ℕ → Feeding
 byteGathered f byte =
     cond (closes (f .held) byte) (recordAnswered (holding f (put (f .held) byte))) (holding f (put (f .held) byte))
 
+abbrev pub isOver : Stage → Bool
+isOver Waiting = false
+isOver Running = false
+isOver Over = true
+
 -- when the run is over the input is not looked at
 abbrev pub takeIn : Stage → Feeding → ℕ → Feeding
 takeIn Waiting f byte = byteGathered f byte

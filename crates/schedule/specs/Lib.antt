@@ -1,7 +1,8 @@
 -- A record gathered byte by byte (Gathering), bytes fed to a run (Feeding), and the whole input in any pieces (WholeInput); what the
--- contracts inside the crate say (Ready, Telling).
+-- contracts say (Ready, Feeds, Telling).
 pub mod Gathering
 pub mod Feeding
 pub mod WholeInput
 pub mod Ready
+pub mod Feeds
 pub mod Telling

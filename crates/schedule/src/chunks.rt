@@ -1,11 +1,10 @@
 // Bytes of the input fed to a run, as far as there is room for rows.
 ghost use mathlib.Core.Path.{_≡_};
-ghost use mathlib.Core.List.{List};
-ghost use Prim.Native.Nat.{ℕ, _+_, _-_, _≤_};
+ghost use Prim.Native.Nat.{_+_, _-_, _≤_};
 ghost use lib.Dec.{ltb};
-ghost use lib.ListN.{length, drop};
+ghost use lib.ListN.{length};
 ghost use Rattle.printout.specs.Writing.{longestRow};
-ghost use Rattle.schedule.specs.Feeding.{Feeding, feeding, feedOf};
+ghost use Rattle.schedule.specs.Feeds.{Feeds};
 ghost use Rattle.schedule.specs.Ready.{Ready};
 ghost use Rattle.schedule.specs.Telling.{EndsWithRow};
 ghost use Rattle.word.specs.declared.Refusal.the-variants.{TooManyRecords};
@@ -85,8 +84,7 @@ pub(crate) fn feed_set_up(
     len: usize,
 ) -> Fed
     requires { ⌜ (session .stage ≡ Waiting) × Ready session (now line) (now mem) × (at ≤ length (now chunk)) × (longestRow ≤ length (now out) - len) ⌝ }
-    ensures fed { λ r. ⌜ _≡_ {A = Feeding × List ℕ} (feeding (r .session) (now (line .exit)) (now (mem .exit)) (now (out .exit)) (r .len), drop (r .next) (now (chunk .entry))) (feedOf (feeding session (now (line .entry)) (now (mem .entry)) (now (out .entry)) len) (drop at (now (chunk .entry)))) ⌝ }
-    ensures ready { λ r. ⌜ Ready (r .session) (now (line .exit)) (now (mem .exit)) × (r .next ≤ length (now (chunk .entry))) ⌝ }
+    ensures { λ r. ⌜ Feeds session (now (chunk .entry)) at (now (line .entry)) (now (mem .entry)) (now (out .entry)) len r (now (line .exit)) (now (mem .exit)) (now (out .exit)) ⌝ }
 {
     let found = gather(session.held, session.cr, chunk, at, line);
     let held = found.held;
@@ -124,8 +122,7 @@ pub(crate) fn feed_running(
     len: usize,
 ) -> Fed
     requires { ⌜ (session .stage ≡ Running) × Ready session (now line) (now mem) × (at ≤ length (now chunk)) ⌝ }
-    ensures fed { λ r. ⌜ _≡_ {A = Feeding × List ℕ} (feeding (r .session) (now (line .exit)) (now (mem .exit)) (now (out .exit)) (r .len), drop (r .next) (now (chunk .entry))) (feedOf (feeding session (now (line .entry)) (now (mem .entry)) (now (out .entry)) len) (drop at (now (chunk .entry)))) ⌝ }
-    ensures ready { λ r. ⌜ Ready (r .session) (now (line .exit)) (now (mem .exit)) × (r .next ≤ length (now (chunk .entry))) ⌝ }
+    ensures { λ r. ⌜ Feeds session (now (chunk .entry)) at (now (line .entry)) (now (mem .entry)) (now (out .entry)) len r (now (line .exit)) (now (mem .exit)) (now (out .exit)) ⌝ }
 {
     let mut board = session.board;
     let s = board.settings;

@@ -1,11 +1,11 @@
 // A run of the program from bytes in to bytes out: records are gathered across chunks, each is answered by the rules, and
 // its row is written.
 ghost use mathlib.Core.Path.{_≡_};
-ghost use mathlib.Core.List.{List};
-ghost use Prim.Native.Nat.{ℕ, _-_, _≤_};
-ghost use lib.ListN.{length, drop};
+ghost use Prim.Native.Nat.{_-_, _≤_};
+ghost use lib.ListN.{length};
 ghost use Rattle.printout.specs.Writing.{Written, putHeading, longestRow};
-ghost use Rattle.schedule.specs.Feeding.{Feeding, feeding, sessionOf, feedOf, finishOf};
+ghost use Rattle.schedule.specs.Feeding.{feeding, sessionOf, isOver, finishOf};
+ghost use Rattle.schedule.specs.Feeds.{Feeds};
 ghost use Rattle.schedule.specs.Ready.{Ready};
 ghost use Rattle.answers.specs.Run.{beginningRun};
 
@@ -15,7 +15,7 @@ mod gather; // gather.rt: a record gathered in the lent line
 mod setup; // setup.rt: the set-up record
 mod take; // take.rt: one whole record
 
-pub use answers::Stage;
+use answers::Stage;
 use board::blank_board;
 use printout::put_heading;
 use rules::Board;
@@ -26,13 +26,14 @@ pub const MOST_RECORDS: u64 = 1000000;
 // A record over 512 bytes is refused whatever it holds; the first 513 show that, and no more are kept.
 pub const LINE_LENGTH: usize = 513;
 
-// A run between two chunks. `held` bytes of the next record stand in a lent line; `cr`: the last of them was a CR.
+// A run between two chunks. `held` bytes of the next record stand in a lent line; `cr`: the last of them was a CR. Only this
+// crate makes one: so a caller has no other than `start`, `feed` and `finish` gave it.
 pub struct Session {
-    pub stage: Stage,
-    pub board: Board,
-    pub count: u64,
-    pub held: usize,
-    pub cr: bool,
+    stage: Stage,
+    board: Board,
+    count: u64,
+    held: usize,
+    cr: bool,
 }
 
 // A run after a record or at its start, and how many bytes the output holds.
@@ -66,6 +67,18 @@ pub fn start(out: &mut [u8]) -> Next
     }
 }
 
+// Whether the run is over, so that the input is not looked at any more.
+pub fn is_over(session: Session) -> bool
+    ensures { λ r. ⌜ r ≡ isOver (session .stage) ⌝ }
+{
+    let stage = session.stage;
+    match stage {
+        Stage::Waiting => false,
+        Stage::Running => false,
+        Stage::Over => true,
+    }
+}
+
 // Bytes of the chunk from `at` on, until none is left, there is no room for another row, or the stage changes.
 pub fn feed(
     session: Session,
@@ -77,8 +90,7 @@ pub fn feed(
     len: usize,
 ) -> Fed
     requires { ⌜ Ready session (now line) (now mem) × (at ≤ length (now chunk)) ⌝ }
-    ensures fed { λ r. ⌜ _≡_ {A = Feeding × List ℕ} (feeding (r .session) (now (line .exit)) (now (mem .exit)) (now (out .exit)) (r .len), drop (r .next) (now (chunk .entry))) (feedOf (feeding session (now (line .entry)) (now (mem .entry)) (now (out .entry)) len) (drop at (now (chunk .entry)))) ⌝ }
-    ensures ready { λ r. ⌜ Ready (r .session) (now (line .exit)) (now (mem .exit)) × (r .next ≤ length (now (chunk .entry))) ⌝ }
+    ensures { λ r. ⌜ Feeds session (now (chunk .entry)) at (now (line .entry)) (now (mem .entry)) (now (out .entry)) len r (now (line .exit)) (now (mem .exit)) (now (out .exit)) ⌝ }
 {
     if chunks::is_full(out.len(), len) {
         return Fed {

@@ -17,7 +17,6 @@ use libc::STDIN_FILENO;
 use output::Output;
 use printout::LONGEST_ROW;
 use schedule::Session;
-use schedule::Stage;
 
 // A run, and what waits of its printout.
 struct State {
@@ -40,14 +39,6 @@ fn make_room(out: &[u8], held: Output) -> Output
         return output::flush(out, held);
     }
     held
-}
-
-fn is_over(stage: Stage) -> bool {
-    match stage {
-        Stage::Waiting => false,
-        Stage::Running => false,
-        Stage::Over => true,
-    }
 }
 
 // All bytes of one chunk.
@@ -109,8 +100,7 @@ fn turn(
     let n = io::count(got, &buffer);
     let state = take_chunk(session, &buffer[..n], line, mem, out, held);
     let after = state.session;
-    let stage = after.stage;
-    let ended = is_over(stage);
+    let ended = schedule::is_over(after);
     AfterRead {
         state: state,
         ended: ended,

@@ -20,7 +20,11 @@ returns c =
     let start = c .before .before .before .before .before .before in
     let a = start .args in
     let f = feeding (a .session) (a .line .now) (a .mem .now) (a .out .now) (a .len) in
-    (sym (feed-full f (drop (a .at) (a .chunk .now)) (is-full f _ _ (c .before .is-full .ensures) (c .if1 .taken))), start .pre)
+    record {
+      fed = sym (feed-full f (drop (a .at) (a .chunk .now)) (is-full f _ _ (c .before .is-full .ensures) (c .if1 .taken)));
+      ready = start .pre .0;
+      within = start .pre .1;
+    }
 
 enum-told : tie.Need-enum-told
 enum-told c = search needs
@@ -70,10 +74,12 @@ returns-4 c =
     let start = c .before .before .before .before .before .before .before .before in
     let a = start .args in
     let f = feeding (a .session) (a .line .now) (a .mem .now) (a .out .now) (a .len) in
-    let free = is-full f _ _ (c .before .before .before .is-full .ensures) (c .before .before .if1 .left) in (
-      ap (λ (l : List ℕ). (f, l)) (drop-length (a .chunk .now)) ∙ sym (feed-over f (drop (a .at) (a .chunk .now)) free (c .enum-told3 .given .1)),
-      (start .pre .0, omega arith),
-    )
+    let free = is-full f _ _ (c .before .before .before .is-full .ensures) (c .before .before .if1 .left) in
+    record {
+      fed = ap (λ (l : List ℕ). (f, l)) (drop-length (a .chunk .now)) ∙ sym (feed-over f (drop (a .at) (a .chunk .now)) free (c .enum-told3 .given .1));
+      ready = start .pre .0;
+      within = omega arith;
+    }
 
 pub feed-spec : {M : Type 1} → statement M
 feed-spec =

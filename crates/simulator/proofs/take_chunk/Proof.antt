@@ -55,7 +55,7 @@ grown-requires c κs =
     let made = at-waiting .waiting .ensures ∙ at-room .make-room .ensures in
     let roomy = feeding (loop .run) (loop .line) (loop .mem) (loop .out) (at-waiting .waiting .result) in
     let within = room-within (loop .run) (loop .line) (loop .mem) (loop .out) (loop .output .len) _ made (loop .inv .1) in
-    let grown = fed-grown roomy _ (drop (loop .at) _) _ (at-feed .feed .ensures .0) within in
+    let grown = fed-grown roomy _ (drop (loop .at) _) _ (at-feed .feed .ensures .fed) within in
     omega (arith, grown .1, at-waiting .waiting .ensures)
 
 loop-less : tie.Need-loop-less Inv-loop μ-loop
@@ -69,9 +69,9 @@ loop-less c =
     let made = at-waiting .waiting .ensures ∙ at-room .make-room .ensures in
     let roomy = feeding (loop .run) (loop .line) (loop .mem) (loop .out) (at-waiting .waiting .result) in
     let room = room-made (loop .run) (loop .line) (loop .mem) (loop .out) (loop .output .len) _ made (omega (arith, loop .inv .5, start .pre .2)) in
-    let forward = advances roomy _ (start .args .chunk .now) (loop .at) _ (at-feed .feed .ensures .1 .1) (at-feed .feed .ensures .0) room
+    let forward = advances roomy _ (start .args .chunk .now) (loop .at) _ (at-feed .feed .ensures .within) (at-feed .feed .ensures .fed) room
     (at-test .loop-test .taken) in
-    omega (arith, forward, at-feed .feed .ensures .1 .1)
+    omega (arith, forward, at-feed .feed .ensures .within)
 
 loop-again : tie.Need-loop-again Inv-loop μ-loop
 loop-again c =
@@ -88,12 +88,12 @@ loop-again c =
     let roomy = feeding (loop .run) (loop .line) (loop .mem) (loop .out) (at-waiting .waiting .result) in
     let chunk = start .args .chunk .now in
     let within = room-within (loop .run) (loop .line) (loop .mem) (loop .out) (loop .output .len) _ made (loop .inv .1) in
-    let grown = fed-grown roomy _ (drop (loop .at) chunk) _ (fed .0) within in
+    let grown = fed-grown roomy _ (drop (loop .at) chunk) _ (fed .fed) within in
     let so-far = takes-made-room (loop .run) (loop .line) (loop .mem) (loop .out) (loop .output .len) _ made _ _ (loop .inv .6) in
-    let all = takes-on roomy _ chunk (loop .at) _ (fed .1 .1) (fed .0) _ (loop .inv .2) so-far in (
-      fed .1 .0,
+    let all = takes-on roomy _ chunk (loop .at) _ (fed .within) (fed .fed) _ (loop .inv .2) so-far in (
+      fed .ready,
       omega (arith, grown .0, c .grown .ensures .0),
-      fed .1 .1,
+      fed .within,
       omega (arith, loop .inv .3, at-line .line .given),
       omega (arith, loop .inv .4, at-mem .mem .given),
       omega (arith, loop .inv .5, at-out .out .given),

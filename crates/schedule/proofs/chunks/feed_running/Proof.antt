@@ -13,7 +13,7 @@ use Rattle.answers.specs.Order.{InOrder}
 use Rattle.schedule.proofs.Feeding.{feed-full}
 use Rattle.answers.proofs.OneProcess.{all-sized}
 use Rattle.schedule.proofs.Progress.{progress, used-up, open-on, is-full, room, as-running, running-ready, ended-ready, placed}
-use Rattle.schedule.proofs.RunningOn.{running, fedRunning, ensured, Served, served, too-many, goes-on}
+use Rattle.schedule.proofs.RunningOn.{running, fedRunning, feeds-as, Served, served, too-many, goes-on}
 use Rattle.schedule.proofs.chunks.feed_running.Statement.{statement}
 use Rattle.schedule.proofs.chunks.feed_running.Tie as tie
 
@@ -54,11 +54,11 @@ returns c =
     let a = start .args in
     let whole = loop .inv .8 ∙ as-running (a .session) (a .line .now) (a .mem .now) (a .out .now) (a .len) (drop (a .at) (a .chunk .now)) (start .pre .0) in
     let f = feeding (running (loop .board) (loop .count) (loop .held) (loop .cr)) (loop .line) (loop .mem) (loop .out) (loop .size) in
-    ensured _ (fedRunning (loop .board) (loop .count) (loop .held) (loop .cr) (loop .next) (loop .size)) (a .chunk .now) (loop .line) (loop .mem) (loop .out) _
-    (c .fed-running .ensures) (
-      sym (feed-full f (drop (loop .next) (a .chunk .now)) (is-full f _ _ (c .before .before .is-full .ensures) (c .before .if1 .taken))) ∙ whole,
-      (running-ready (loop .board) (loop .count) (loop .held) (loop .cr) (loop .line) (loop .mem) (loop .inv .1) (loop .inv .3) (loop .inv .4), loop .inv .0),
-    )
+    feeds-as _ (fedRunning (loop .board) (loop .count) (loop .held) (loop .cr) (loop .next) (loop .size)) (c .fed-running .ensures) (record {
+      fed = sym (feed-full f (drop (loop .next) (a .chunk .now)) (is-full f _ _ (c .before .before .is-full .ensures) (c .before .if1 .taken))) ∙ whole;
+      ready = running-ready (loop .board) (loop .count) (loop .held) (loop .cr) (loop .line) (loop .mem) (loop .inv .1) (loop .inv .3) (loop .inv .4);
+      within = loop .inv .0;
+    })
 
 gather-requires : tie.Need-gather-requires Inv-loop μ-loop
 gather-requires c κs =
@@ -105,13 +105,15 @@ returns-2 c =
     let whole = loop .inv .8 ∙ as-running (a .session) (a .line .now) (a .mem .now) (a .out .now) (a .len) (drop (a .at) (a .chunk .now)) (start .pre .0) in
     let gathered = at-gather .gather .ensures in
     let over = c .before .before .fed-too-many .ensures in
-    let ended = over .0 in (
-      placed _ (a .chunk .now) _ _ _ (over .1)
+    let ended = over .0 in
+    record {
+      fed = placed _ (a .chunk .now) _ _ _ (over .1)
           (too-many (loop .board) (loop .count) (loop .held) (loop .cr) (loop .line) (loop .mem) (loop .out) (loop .size) (drop (loop .next) (a .chunk .now)) _ _ _
           (room _ _ (at-is-full .is-full .ensures) (at-if1 .if1 .left)) (gathered .0) _ _ _ _ (at-if2 .if2 .taken) (at-if3 .if3 .taken)
-          (at-running .running .ensures) ended ∙ whole),
-      (ended-ready _ _ _ _ _ _ _ _ _ ended (gathered .1 .2), omega (arith, gathered .1 .1, over .1)),
-    )
+          (at-running .running .ensures) ended ∙ whole);
+      ready = ended-ready _ _ _ _ _ _ _ _ _ ended (gathered .1 .2);
+      within = omega (arith, gathered .1 .1, over .1);
+    }
 
 slice-reshare-prefix-read-schedule : tie.Need-slice-reshare-prefix-read-schedule Inv-loop μ-loop
 slice-reshare-prefix-read-schedule c = omega arith
@@ -267,11 +269,11 @@ returns-3 c =
     let a = start .args in
     let whole = loop .inv .8 ∙ as-running (a .session) (a .line .now) (a .mem .now) (a .out .now) (a .len) (drop (a .at) (a .chunk .now)) (start .pre .0) in
     let f = feeding (running (loop .board) (loop .count) (loop .held) (loop .cr)) (loop .line) (loop .mem) (loop .out) (loop .size) in
-    ensured _ (fedRunning (loop .board) (loop .count) (loop .held) (loop .cr) (loop .next) (loop .size)) (a .chunk .now) (loop .line) (loop .mem) (loop .out) _
-    (c .fed-running2 .ensures) (
-      used-up f (a .chunk .now) (loop .next) (c .before .loop-test .left) ∙ whole,
-      (running-ready (loop .board) (loop .count) (loop .held) (loop .cr) (loop .line) (loop .mem) (loop .inv .1) (loop .inv .3) (loop .inv .4), loop .inv .0),
-    )
+    feeds-as _ (fedRunning (loop .board) (loop .count) (loop .held) (loop .cr) (loop .next) (loop .size)) (c .fed-running2 .ensures) (record {
+      fed = used-up f (a .chunk .now) (loop .next) (c .before .loop-test .left) ∙ whole;
+      ready = running-ready (loop .board) (loop .count) (loop .held) (loop .cr) (loop .line) (loop .mem) (loop .inv .1) (loop .inv .3) (loop .inv .4);
+      within = loop .inv .0;
+    })
 
 pub feed-running-spec : {M : Type 1} → statement M
 feed-running-spec =

@@ -44,19 +44,18 @@ returns c =
     let start = gathered .before .before .before .before .before .before in
     let a = start .args in
     let tell = at-take-set-up .take-set-up .ensures in
-    let told = in-stage (a .session) (a .mem .now) (a .out .now) (a .len) Waiting _ _ _ _ _ (start .pre .0) tell in (
-      fed-left (a .session) (a .line .now) (a .mem .now) (a .out .now) (a .len) (drop (a .at) (a .chunk .now)) _ _ _ (start .pre .3)
+    let told = in-stage (a .session) (a .mem .now) (a .out .now) (a .len) Waiting _ _ _ _ _ (start .pre .0) tell in
+    record {
+      fed = fed-left (a .session) (a .line .now) (a .mem .now) (a .out .now) (a .len) (drop (a .at) (a .chunk .now)) _ _ _ (start .pre .3)
           (reads-waiting (a .session .stage) (start .pre .0)) (gathered .gather .ensures .0) _ _ _ _ (at-if1 .if1 .taken) told
-          (set-up-leaves (a .session) _ (a .mem .now) _ _ (a .out .now) _ (a .len) _ (start .pre .0) tell),
-      (
-        record {
-          order = session-order _ (a .out .now) (a .len) _ _ _ _ told (record-order (runOf (a .session) (a .mem .now)) _ (start .pre .1 .order));
-          held = omega (arith, ap (λ (s : Session). s .held) (tell .session));
-          long = gathered .gather .ensures .1 .2;
-        },
-        gathered .gather .ensures .1 .1,
-      ),
-    )
+          (set-up-leaves (a .session) _ (a .mem .now) _ _ (a .out .now) _ (a .len) _ (start .pre .0) tell);
+      ready = record {
+        order = session-order _ (a .out .now) (a .len) _ _ _ _ told (record-order (runOf (a .session) (a .mem .now)) _ (start .pre .1 .order));
+        held = omega (arith, ap (λ (s : Session). s .held) (tell .session));
+        long = gathered .gather .ensures .1 .2;
+      };
+      within = gathered .gather .ensures .1 .1;
+    }
 
 same-length-4 : tie.Need-same-length-4
 same-length-4 c = search needs
@@ -67,16 +66,18 @@ returns-2 c =
     let start = gathered .before .before .before .before .before .before in
     let a = start .args in
     let found = gathered .gather .result in
-    let line = gathered .gather .last .1 .1 .1 .1 .0 in (
-      ap (λ (s : Stage). (
+    let line = gathered .gather .last .1 .1 .1 .1 .0 in
+    record {
+      fed = ap (λ (s : Stage). (
         feeding (record { stage = s; board = a .session .board; count = a .session .count; held = found .held; cr = found .cr }) line (a .mem .now)
             (a .out .now) (a .len),
         drop (found .next) (a .chunk .now),
       )) (sym (start .pre .0))
           ∙ fed-open (a .session) (a .line .now) (a .mem .now) (a .out .now) (a .len) (drop (a .at) (a .chunk .now)) _ _ _ (start .pre .3)
-          (reads-waiting (a .session .stage) (start .pre .0)) (gathered .gather .ensures .0) (c .before .if1 .left),
-      (record { order = λ q. still-waits q; held = gathered .gather .ensures .1 .0; long = gathered .gather .ensures .1 .2 }, gathered .gather .ensures .1 .1),
-    )
+          (reads-waiting (a .session .stage) (start .pre .0)) (gathered .gather .ensures .0) (c .before .if1 .left);
+      ready = record { order = λ q. still-waits q; held = gathered .gather .ensures .1 .0; long = gathered .gather .ensures .1 .2 };
+      within = gathered .gather .ensures .1 .1;
+    }
 
 pub feed-set-up-spec : {M : Type 1} → statement M
 feed-set-up-spec =
