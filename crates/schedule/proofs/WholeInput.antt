@@ -145,9 +145,9 @@ whole-input =
           ∙ o .owed rest;
       taken = λ line out long room out-after len e.
           let t = e .takes in
-          let c = acts (started line out) (t .actions) in
-          ap (λ (l : List ℕ). c .written ++ l) (sym (e .held))
-          ∙ sym (ap (λ (x : Feeding). c .written ++ output (finishOf x)) (t .feeding))
-          ∙ input-ends line out long room (t .actions) (subst (λ (x : Feeding). isFull x ≡ false) (sym (t .feeding)) (e .room))
-          ∙ ap printoutOf (t .read);
+          let free = subst (λ (c : Caller). isFull (c .feeding) ≡ false) (sym (t .leads)) (e .room) in
+          ap (λ (l : List ℕ). e .written ++ l) (sym (e .held))
+          ∙ sym (ap (λ (c : Caller). c .written ++ output (finishOf (c .feeding))) (t .leads))
+          ∙ input-ends line out long room (t .actions) free
+          ∙ ap (λ (c : Caller). printoutOf (c .read)) (t .leads);
     }

@@ -2,9 +2,8 @@
 -- printout of all bytes read.
 use Prim.Native.Nat.{ℕ, _-_, _≤_}
 use mathlib.Core.Path.{_≡_}
-use mathlib.Core.Bool.{false, cond}
+use mathlib.Core.Bool.{false}
 use mathlib.Core.List.{List, [], _∷_, _++_}
-use lib.Dec.{ltb}
 use lib.ListN.{length, take}
 use lib.Seq.{sets}
 use Rattle.printout.specs.Row.{heading}
@@ -59,28 +58,19 @@ acts c (action ∷ actions) = acts (act c action) actions
 abbrev pub from : Feeding → Caller
 from f = record { feeding = f; read = []; written = [] }
 
--- the bytes are taken, each once and in their order, with the output written out in between as need be
-pub record Takes (f : Feeding) (bytes : List ℕ) (after : Feeding) : Type 0 where
+-- the bytes are taken, each once and in their order, and what the output holds is written out in between as need be
+pub record Takes (f : Feeding) (bytes written : List ℕ) (after : Feeding) : Type 0 where
   pub actions : List Action
-  pub feeding : acts (from f) actions .feeding ≡ after
-  pub read : acts (from f) actions .read ≡ bytes
+  pub leads : acts (from f) actions ≡ record { feeding = after; read = bytes; written = written }
 
--- some bytes are, whichever they are
-pub record TakesSome (f after : Feeding) : Type 0 where
-  pub bytes : List ℕ
-  pub takes : Takes f bytes after
-
--- some bytes are taken and the input ends, with room for a last row: what the output then holds
+-- some bytes are taken and the input ends, with room for a last row: what was written out, and what the output then holds
 pub record Ends (f : Feeding) (out : List ℕ) (len : ℕ) : Type 0 where
   pub bytes : List ℕ
+  pub written : List ℕ
   pub before : Feeding
-  pub takes : Takes f bytes before
+  pub takes : Takes f bytes written before
   pub room : isFull before ≡ false
   pub held : output (finishOf before) ≡ take len out
-
--- the output is written out where there may be no room for another row
-abbrev pub madeRoom : ℕ → ℕ → ℕ
-madeRoom lent len = cond (ltb (lent - len) longestRow) 0 len
 
 -- a line of 513 bytes and an output with room for a row are lent
 pub record Whole : Type 1 where
@@ -97,4 +87,4 @@ pub record Whole : Type 1 where
   -- where bytes were taken so and the input has ended
   pub taken : (line out : List ℕ) → length line ≡ lineLength → longestRow ≤ length out → (out-after : List ℕ) (len : ℕ)
       → (e : Ends (started line out .feeding) out-after len)
-      → acts (started line out) (e .takes .actions) .written ++ take len out-after ≡ printoutOf (e .bytes)
+      → e .written ++ take len out-after ≡ printoutOf (e .bytes)

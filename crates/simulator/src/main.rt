@@ -1,22 +1,30 @@
-// The program: a schedule read from standard input to its end, and its printout written to standard output. Contracts say
-// that the bytes which were read are taken, each once and in order, and that what is put into the output is written out
-// before anything else stands in its place. What they cannot say is which bytes the system reads and writes: for that `turn`,
-// `read_all` and output.rt are to be believed.
+// The program: a schedule read from standard input to its end, and its printout written to standard output. Contracts say that
+// all that was read is taken, each byte once and in order, up to the end of the input or of the run; and that, where no write
+// failed, as many bytes were written as the printout of those has, each after it was put and before another stood in its
+// place. What they cannot say is which bytes the system reads and writes: that is to be believed of the one read in input.rt
+// and the one write in output.rt, and that no result of `input::read` or `output::flush` is left unused here.
 ghost use mathlib.Core.Path.{_≡_};
-ghost use Prim.Native.Nat.{_≤_};
+ghost use mathlib.Core.Bool.{_||_};
+ghost use Prim.Native.Nat.{_+_, _≤_, _<_};
 ghost use lib.ListN.{length, replicate};
 ghost use Rattle.printout.specs.Writing.{longestRow};
-ghost use Rattle.schedule.specs.Feeding.{feeding, finishOf};
+ghost use Rattle.schedule.specs.Feeding.{isOver};
 ghost use Rattle.schedule.specs.Gathering.{lineLength};
-ghost use Rattle.schedule.specs.Ready.{Ready};
-ghost use Rattle.schedule.specs.WholeInput.{started, Takes, TakesSome, Ends, madeRoom};
+ghost use Rattle.schedule.specs.Longest.{longestPrintout};
+ghost use Rattle.simulator.specs.Inputs.{countLimit, bufferLength};
+ghost use Rattle.simulator.specs.Outputs.{MakesRoom};
+ghost use Rattle.simulator.specs.Points.{point, Stands, TakesChunk, Turns, ReadsAll, Finishes, Runs, Prints};
 
+mod input; // input.rt: the bytes read from standard input
 mod output; // output.rt: the bytes that wait for standard output
 
-use libc::STDIN_FILENO;
+use input::Input;
 use output::Output;
 use printout::LONGEST_ROW;
 use schedule::Session;
+
+// After so many bytes another read could give more than can be counted. No input is that long.
+const MOST_READ: usize = usize::MAX - 65535;
 
 // A run, and what waits of its printout.
 struct State {
@@ -24,16 +32,21 @@ struct State {
     held: Output,
 }
 
-// A run after one read, and whether it has ended, for want of input or because it is over.
 struct AfterRead {
     state: State,
-    ended: bool,
+    input: Input,
+}
+
+// What is left of a run that has ended.
+struct Ended {
+    held: Output,
+    input: Input,
 }
 
 // The output with room for another row: where there may be none, it is written out.
 fn make_room(out: &[u8], held: Output) -> Output
-    requires { ⌜ held .len ≤ length (now out) ⌝ }
-    ensures { λ r. ⌜ r .len ≡ madeRoom (length (now (out .entry))) (held .len) ⌝ }
+    requires { ⌜ (held .len ≤ length (now out)) × (held .written + held .len ≤ longestPrintout) ⌝ }
+    ensures { λ r. ⌜ MakesRoom (length (now (out .entry))) held r ⌝ }
 {
     if out.len() - output::waiting(held) < LONGEST_ROW {
         return output::flush(out, held);
@@ -44,15 +57,14 @@ fn make_room(out: &[u8], held: Output) -> Output
 // All bytes of one chunk.
 fn take_chunk(
     session: Session,
+    held: Output,
     chunk: &[u8],
     line: &mut [u8],
     mem: &mut [u64],
     out: &mut [u8],
-    held: Output,
 ) -> State
-    requires { ⌜ Ready session (now line) (now mem) × (held .len ≤ length (now out)) × (longestRow ≤ length (now out)) ⌝ }
-    ensures takes { λ r. ⌜ Takes (feeding session (now (line .entry)) (now (mem .entry)) (now (out .entry)) (held .len)) (now (chunk .entry)) (feeding (r .session) (now (line .exit)) (now (mem .exit)) (now (out .exit)) (r .held .len)) ⌝ }
-    ensures ready { λ r. ⌜ Ready (r .session) (now (line .exit)) (now (mem .exit)) × (r .held .len ≤ length (now (out .exit))) ⌝ }
+    requires { ⌜ Stands (point session (now line) (now mem) (now out) held) ⌝ }
+    ensures { λ r. ⌜ TakesChunk (point session (now (line .entry)) (now (mem .entry)) (now (out .entry)) held) (now (chunk .entry)) (point (r .session) (now (line .exit)) (now (mem .exit)) (now (out .exit)) (r .held)) ⌝ }
 {
     let mut run = session;
     let mut output = held;
@@ -71,81 +83,77 @@ fn take_chunk(
     }
 }
 
-// One read of the input.
+// One read of the input, and all that it gave.
 fn turn(
     session: Session,
+    held: Output,
+    input: Input,
     line: &mut [u8],
     mem: &mut [u64],
+    buffer: &mut [u8],
     out: &mut [u8],
-    held: Output,
 ) -> AfterRead
-    requires { ⌜ Ready session (now line) (now mem) × (held .len ≤ length (now out)) × (longestRow ≤ length (now out)) ⌝ }
-    ensures takes { λ r. ⌜ TakesSome (feeding session (now (line .entry)) (now (mem .entry)) (now (out .entry)) (held .len)) (feeding (r .state .session) (now (line .exit)) (now (mem .exit)) (now (out .exit)) (r .state .held .len)) ⌝ }
-    ensures ready { λ r. ⌜ Ready (r .state .session) (now (line .exit)) (now (mem .exit)) × (r .state .held .len ≤ length (now (out .exit))) ⌝ }
+    requires { ⌜ Stands (point session (now line) (now mem) (now out) held) × (input .total + length (now buffer) < countLimit) ⌝ }
+    ensures { λ r. ⌜ Turns (point session (now (line .entry)) (now (mem .entry)) (now (out .entry)) held) input (point (r .state .session) (now (line .exit)) (now (mem .exit)) (now (out .exit)) (r .state .held)) (r .input) (now (buffer .exit)) ⌝ }
 {
-    let mut buffer = io::large_buffer();
-    let got = libc::read(STDIN_FILENO, &mut buffer);
-    if got < 0 {
-        output::warn(b"simulator: the input could not be read to its end\n");
-    }
-    if got <= 0 {
-        return AfterRead {
-            state: State {
-                session: session,
-                held: held,
-            },
-            ended: true,
-        };
-    }
-    let n = io::count(got, &buffer);
-    let state = take_chunk(session, &buffer[..n], line, mem, out, held);
-    let after = state.session;
-    let ended = schedule::is_over(after);
+    let after = input::read(input, buffer);
+    let got = input::total(after) - input::total(input);
+    let state = take_chunk(session, held, &buffer[..got], line, mem, out);
     AfterRead {
         state: state,
-        ended: ended,
+        input: after,
     }
+}
+
+fn has_stopped(session: Session, input: Input) -> bool
+    ensures { λ r. ⌜ r ≡ (input .ended || isOver (session .stage)) ⌝ }
+{
+    if input::has_ended(input) {
+        return true;
+    }
+    schedule::is_over(session)
 }
 
 // The whole input, up to its end or the run's.
 fn read_all(
     session: Session,
+    held: Output,
     line: &mut [u8],
     mem: &mut [u64],
+    buffer: &mut [u8],
     out: &mut [u8],
-    held: Output,
-) -> State
-    requires { ⌜ Ready session (now line) (now mem) × (held .len ≤ length (now out)) × (longestRow ≤ length (now out)) ⌝ }
-    ensures takes { λ r. ⌜ TakesSome (feeding session (now (line .entry)) (now (mem .entry)) (now (out .entry)) (held .len)) (feeding (r .session) (now (line .exit)) (now (mem .exit)) (now (out .exit)) (r .held .len)) ⌝ }
-    ensures ready { λ r. ⌜ Ready (r .session) (now (line .exit)) (now (mem .exit)) × (r .held .len ≤ length (now (out .exit))) ⌝ }
+) -> AfterRead
+    requires { ⌜ Stands (point session (now line) (now mem) (now out) held) × (length (now buffer) ≡ bufferLength) ⌝ }
+    ensures { λ r. ⌜ ReadsAll (point session (now (line .entry)) (now (mem .entry)) (now (out .entry)) held) (point (r .state .session) (now (line .exit)) (now (mem .exit)) (now (out .exit)) (r .state .held)) (r .input) ⌝ }
 {
     let mut run = session;
     let mut output = held;
-    let mut turns = u64::MAX;
-    while turns > 0 {
-        let taken = turn(run, line, mem, out, output);
+    let mut input = input::unread();
+    let mut total: usize = 0;
+    while total < MOST_READ {
+        let taken = turn(run, output, input, line, mem, buffer, out);
         let state = taken.state;
         run = state.session;
         output = state.held;
-        if taken.ended {
-            return State {
-                session: run,
-                held: output,
-            };
+        input = taken.input;
+        total = input::total(input);
+        if has_stopped(run, input) {
+            return taken;
         }
-        turns -= 1;
     }
-    State {
-        session: run,
-        held: output,
+    AfterRead {
+        state: State {
+            session: run,
+            held: output,
+        },
+        input: input,
     }
 }
 
 // The end of the input: the output with the last record's row.
-fn end(session: Session, line: &[u8], mem: &mut [u64], out: &mut [u8], held: Output) -> Output
-    requires { ⌜ Ready session (now line) (now mem) × (held .len ≤ length (now out)) × (longestRow ≤ length (now out)) ⌝ }
-    ensures finished { λ r. ⌜ (now (out .exit) ≡ finishOf (feeding session (now (line .entry)) (now (mem .entry)) (now (out .entry)) (madeRoom (length (now (out .entry))) (held .len))) .out) × (r .len ≡ finishOf (feeding session (now (line .entry)) (now (mem .entry)) (now (out .entry)) (madeRoom (length (now (out .entry))) (held .len))) .len) ⌝ }
-    ensures within { λ r. ⌜ r .len ≤ length (now (out .exit)) ⌝ }
+fn end(session: Session, held: Output, line: &[u8], mem: &mut [u64], out: &mut [u8]) -> Output
+    requires { ⌜ Stands (point session (now line) (now mem) (now out) held) ⌝ }
+    ensures { λ r. ⌜ Finishes (point session (now (line .entry)) (now (mem .entry)) (now (out .entry)) held) (now (out .exit)) r ⌝ }
 {
     let room = make_room(out, held);
     let len = output::waiting(room);
@@ -154,31 +162,43 @@ fn end(session: Session, line: &[u8], mem: &mut [u64], out: &mut [u8], held: Out
 }
 
 // A whole run, but for what waits at its end.
-fn run(line: &mut [u8], mem: &mut [u64], out: &mut [u8]) -> Output
-    requires { ⌜ (length (now line) ≡ lineLength) × (now mem ≡ replicate 144 0) × (longestRow ≤ length (now out)) ⌝ }
-    ensures ends { λ r. ⌜ Ends (started (now (line .entry)) (now (out .entry)) .feeding) (now (out .exit)) (r .len) ⌝ }
-    ensures within { λ r. ⌜ r .len ≤ length (now (out .exit)) ⌝ }
+fn run(line: &mut [u8], mem: &mut [u64], buffer: &mut [u8], out: &mut [u8]) -> Ended
+    requires { ⌜ (length (now line) ≡ lineLength) × (now mem ≡ replicate 144 0) × (length (now buffer) ≡ bufferLength) × (longestRow ≤ length (now out)) ⌝ }
+    ensures { λ r. ⌜ Runs (now (line .entry)) (now (out .entry)) (now (out .exit)) (r .held) (r .input) ⌝ }
 {
     let begun = schedule::start(out);
     let session = begun.session;
     let heading = output::begun(begun.len);
-    let read = read_all(session, line, mem, out, heading);
-    let after = read.session;
-    end(after, line, mem, out, read.held)
+    let read = read_all(session, heading, line, mem, buffer, out);
+    let state = read.state;
+    let after = state.session;
+    let held = end(after, state.held, line, mem, out);
+    let input = read.input;
+    Ended {
+        held: held,
+        input: input,
+    }
 }
 
 // A whole run, of which nothing waits any more.
-fn print(line: &mut [u8], mem: &mut [u64], out: &mut [u8]) -> Output
-    requires { ⌜ (length (now line) ≡ lineLength) × (now mem ≡ replicate 144 0) × (longestRow ≤ length (now out)) ⌝ }
-    ensures { λ r. ⌜ r .len ≡ 0 ⌝ }
+fn print(line: &mut [u8], mem: &mut [u64], buffer: &mut [u8], out: &mut [u8]) -> Ended
+    requires { ⌜ (length (now line) ≡ lineLength) × (now mem ≡ replicate 144 0) × (length (now buffer) ≡ bufferLength) × (longestRow ≤ length (now out)) ⌝ }
+    ensures { λ r. ⌜ Prints (now (line .entry)) (now (out .entry)) (now (out .exit)) (r .held) (r .input) ⌝ }
 {
-    let held = run(line, mem, out);
-    output::flush(out, held)
+    let ended = run(line, mem, buffer, out);
+    let last = ended.held;
+    let written = output::flush(out, last);
+    let input = ended.input;
+    Ended {
+        held: written,
+        input: input,
+    }
 }
 
 fn main() {
     let mut line = [0u8; 513];
     let mut mem = [0u64; 144];
+    let mut buffer = [0u8; 65536];
     let mut out = [0u8; 65536];
-    print(&mut line, &mut mem, &mut out);
+    print(&mut line, &mut mem, &mut buffer, &mut out);
 }

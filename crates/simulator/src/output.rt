@@ -1,27 +1,32 @@
-// The bytes that wait for standard output. How many they are is told by an `Output`, which this file alone can make: it begins
-// with the heading, grows by rows, and is emptied by `flush` alone, which writes them. That the system then does as it is
-// asked no contract can say; it is to be believed of this file.
+// The bytes that wait for standard output, and how many were written to it. Both are told by an `Output`, which this file alone
+// can make: it begins with the heading, grows by rows, and is emptied by `flush` alone, which counts what it writes. That the
+// system writes as `flush` asks no contract can say: it is to be believed of the one write in it.
 ghost use mathlib.Core.Path.{_≡_};
-ghost use mathlib.Core.Bool.{true, false};
-ghost use Prim.Native.Nat.{_≤_};
+ghost use mathlib.Core.Bool.{false};
+ghost use Prim.Native.Nat.{_+_, _≤_};
 ghost use lib.ListN.{length};
 ghost use Rattle.printout.specs.Row.{heading};
+ghost use Rattle.schedule.specs.Longest.{longestPrintout};
+ghost use Rattle.simulator.specs.Outputs.{Flushes};
 use libc::STDERR_FILENO;
 use libc::STDOUT_FILENO;
 
-// The first `len` bytes wait. After a write that failed no other is made, so that a printout is cut short but has no gap.
+// The first `len` bytes wait, and `written` were written before them. After a write that failed no other is made and none is
+// counted, so that a printout is cut short but has no gap.
 pub struct Output {
     len: usize,
+    written: usize,
     failed: bool,
 }
 
 // The heading waits.
 pub fn begun(len: usize) -> Output
     requires { ⌜ len ≡ length heading ⌝ }
-    ensures { λ r. ⌜ (r .len ≡ len) × (r .failed ≡ false) ⌝ }
+    ensures { λ r. ⌜ r ≡ record { len = len; written = 0; failed = false } ⌝ }
 {
     Output {
         len: len,
+        written: 0,
         failed: false,
     }
 }
@@ -29,10 +34,11 @@ pub fn begun(len: usize) -> Output
 // More bytes wait than before.
 pub fn grown(output: Output, len: usize) -> Output
     requires { ⌜ output .len ≤ len ⌝ }
-    ensures { λ r. ⌜ (r .len ≡ len) × (r .failed ≡ output .failed) ⌝ }
+    ensures { λ r. ⌜ r ≡ record { len = len; written = output .written; failed = output .failed } ⌝ }
 {
     Output {
         len: len,
+        written: output.written,
         failed: output.failed,
     }
 }
@@ -46,23 +52,27 @@ pub fn waiting(output: Output) -> usize
 
 // Writes the bytes that wait, so that none does.
 pub fn flush(out: &[u8], output: Output) -> Output
-    requires { ⌜ output .len ≤ length (now out) ⌝ }
-    ensures { λ r. ⌜ (r .len ≡ 0) × (output .failed ≡ true → r .failed ≡ true) ⌝ }
+    requires { ⌜ (output .len ≤ length (now out)) × (output .written + output .len ≤ longestPrintout) ⌝ }
+    ensures { λ r. ⌜ Flushes output r ⌝ }
 {
     let len = output.len;
     if output.failed {
-        return Output {
-            len: 0,
-            failed: true,
-        };
+        return emptied(output.written, true);
     }
-    let is_written = io::write_all(STDOUT_FILENO, &out[..len]);
-    if !is_written {
-        warn(b"simulator: the printout could not be written to its end\n");
+    if io::write_all(STDOUT_FILENO, &out[..len]) {
+        return emptied(output.written + len, false);
     }
+    warn(b"simulator: the printout could not be written to its end\n");
+    emptied(output.written, true)
+}
+
+fn emptied(written: usize, failed: bool) -> Output
+    ensures { λ r. ⌜ r ≡ record { len = 0; written = written; failed = failed } ⌝ }
+{
     Output {
         len: 0,
-        failed: !is_written,
+        written: written,
+        failed: failed,
     }
 }
 

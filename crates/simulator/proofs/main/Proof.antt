@@ -1,4 +1,5 @@
--- `main` meets what `print` asks for: a line of 513 bytes, 144 words that are 0, and an output with room. Assumes nothing.
+-- `main` meets what `print` asks for: a line of 513 bytes, 144 words that are 0, a buffer of 65,536 bytes, and an output with room.
+-- Assumes nothing.
 use mathlib.Core.Path.{refl}
 use borrow.Author.Needs.{needs}
 use Rattle.simulator.proofs.main.Statement.{statement}
@@ -13,8 +14,11 @@ slice-aggregate-print-2 c = search needs
 slice-aggregate-print-3 : tie.Need-slice-aggregate-print-3
 slice-aggregate-print-3 c = search needs
 
+slice-aggregate-print-4 : tie.Need-slice-aggregate-print-4
+slice-aggregate-print-4 c = search needs
+
 print-requires : tie.Need-print-requires
-print-requires c κs = (refl, refl, search needs)
+print-requires c κs = (refl, refl, search needs, search needs)
 
 returns : tie.Need-returns
 returns c = search needs
@@ -26,5 +30,6 @@ main-spec =
     slice-aggregate-print
     slice-aggregate-print-2
     slice-aggregate-print-3
+    slice-aggregate-print-4
     print-requires
     returns)
