@@ -3,8 +3,9 @@ ghost use mathlib.Core.Path.{_≡_};
 ghost use mathlib.Core.Bool.{false, _&&_};
 ghost use Prim.Native.Nat.{_≤_};
 ghost use lib.Dec.{eqb};
-ghost use lib.ListN.{length, drop};
-ghost use Rattle.schedule.specs.Gathering.{lineLength, put, gatherOf};
+ghost use lib.ListN.{length};
+ghost use Rattle.schedule.specs.Feeds.{Gathers};
+ghost use Rattle.schedule.specs.Gathering.{lineLength, put};
 use crate::LINE_LENGTH;
 
 pub struct Found {
@@ -34,8 +35,7 @@ fn keep_byte(line: &mut [u8], held: usize, byte: u8) -> usize
 // The bytes of the chunk from `at` on, until the record is closed or the chunk ends.
 pub(crate) fn gather(held: usize, cr: bool, chunk: &[u8], at: usize, line: &mut [u8]) -> Found
     requires { ⌜ (length (now line) ≡ lineLength) × (held ≤ lineLength) × (at ≤ length (now chunk)) ⌝ }
-    ensures { λ r. ⌜ record { held = record { line = now (line .exit); held = r .held; cr = r .cr }; left = drop (r .next) (now (chunk .entry)); closed = r .closed } ≡ gatherOf (record { line = now (line .entry); held = held; cr = cr }) (drop at (now (chunk .entry))) ⌝ }
-    ensures { λ r. ⌜ (r .held ≤ lineLength) × (r .next ≤ length (now (chunk .entry))) × (length (now (line .exit)) ≡ lineLength) ⌝ }
+    ensures { λ r. ⌜ Gathers held cr (now (chunk .entry)) at (now (line .entry)) r (now (line .exit)) ⌝ }
 {
     let mut kept = held;
     let mut last = cr;

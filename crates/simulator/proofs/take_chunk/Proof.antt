@@ -41,7 +41,8 @@ grown-requires c κs =
     let at-waiting = at-feed .before .before .before .before in
     let at-room = at-waiting .before in
     let loop = at-room .before .before .before .loop in
-    rows-put _ (loop .inv .4 .stands) _ (at-room .make-room .ensures) _ _ _ (at-waiting .waiting .ensures) _ _ _ _ (at-feed .feed .ensures)
+    let put = rows-put _ (loop .inv .4 .stands) _ (at-room .make-room .ensures) _ _ _ (at-waiting .waiting .ensures) _ _ _ _ (at-feed .feed .ensures) in
+    omega (arith, put, at-waiting .waiting .ensures)
 
 loop-less : tie.Need-loop-less Inv-loop μ-loop
 loop-less c =

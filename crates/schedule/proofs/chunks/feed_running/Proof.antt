@@ -78,7 +78,7 @@ same-length-4 : tie.Need-same-length-4 Inv-loop μ-loop
 same-length-4 c =
     let at-gather = c .before .before .before .before .before .before .before .before .before in
     let at-loop = at-gather .before .before .before .before .before in
-    omega (arith, at-loop .loop .inv .5, at-gather .gather .ensures .1 .2, at-loop .loop .inv .4)
+    omega (arith, at-loop .loop .inv .5, at-gather .gather .ensures .long, at-loop .loop .inv .4)
 
 same-length-5 : tie.Need-same-length-5 Inv-loop μ-loop
 same-length-5 c =
@@ -109,10 +109,10 @@ returns-2 c =
     record {
       fed = placed _ (a .chunk .now) _ _ _ (over .1)
           (too-many (loop .board) (loop .count) (loop .held) (loop .cr) (loop .line) (loop .mem) (loop .out) (loop .size) (drop (loop .next) (a .chunk .now)) _ _ _
-          (room _ _ (at-is-full .is-full .ensures) (at-if1 .if1 .left)) (gathered .0) _ _ _ _ (at-if2 .if2 .taken) (at-if3 .if3 .taken)
+          (room _ _ (at-is-full .is-full .ensures) (at-if1 .if1 .left)) (gathered .gathered) _ _ _ _ (at-if2 .if2 .taken) (at-if3 .if3 .taken)
           (at-running .running .ensures) ended ∙ whole);
-      ready = ended-ready _ _ _ _ _ _ _ _ _ ended (gathered .1 .2);
-      within = omega (arith, gathered .1 .1, over .1);
+      ready = ended-ready _ _ _ _ _ _ _ _ _ ended (gathered .long);
+      within = omega (arith, gathered .within, over .1);
     }
 
 slice-reshare-prefix-read-schedule : tie.Need-slice-reshare-prefix-read-schedule Inv-loop μ-loop
@@ -121,7 +121,7 @@ slice-reshare-prefix-read-schedule c = omega arith
 slice-aggregate-read-schedule : tie.Need-slice-aggregate-read-schedule Inv-loop μ-loop
 slice-aggregate-read-schedule c =
     let at-gather = c .before .before .before .before .before in
-    sym (length-take-le _ _ (omega (arith, at-gather .gather .ensures .1)))
+    sym (length-take-le _ _ (omega (arith, at-gather .gather .ensures .kept, at-gather .gather .ensures .long)))
 
 read-schedule-requires : tie.Need-read-schedule-requires Inv-loop μ-loop
 read-schedule-requires c κs = omega arith
@@ -186,7 +186,7 @@ loop-less c =
     let start = at-loop .before .before .before .before .before .before .before in
     let loop = at-loop .loop in
     let a = start .args in
-    progress _ _ (a .chunk .now) (loop .next) _ _ (at-loop-test .loop-test .taken) (at-gather .gather .ensures .0)
+    progress _ _ (a .chunk .now) (loop .next) _ _ (at-loop-test .loop-test .taken) (at-gather .gather .ensures .gathered)
 
 loop-again : tie.Need-loop-again Inv-loop μ-loop
 loop-again c =
@@ -207,14 +207,14 @@ loop-again c =
     let gathered = at-gather .gather .ensures in
     let on =
     goes-on (loop .board) (loop .count) (loop .held) (loop .cr) (loop .line) (loop .mem) (loop .out) (loop .size) (drop (loop .next) (a .chunk .now)) _ _ _
-    (room _ _ (at-is-full .is-full .ensures) (at-if1 .if1 .left)) (gathered .0) (loop .inv .1) _ (loop .inv .2) _ _ _ _ _ _ (at-if2 .if2 .taken)
+    (room _ _ (at-is-full .is-full .ensures) (at-if1 .if1 .left)) (gathered .gathered) (loop .inv .1) _ (loop .inv .2) _ _ _ _ _ _ (at-if2 .if2 .taken)
     (at-if3 .if3 .left) (at-read-schedule .read-schedule .ensures) (at-slot .slot .ensures .0) (at-answer .answer .ensures) in (
-      gathered .1 .1,
+      gathered .within,
       on .0,
       on .1,
       omega arith,
-      gathered .1 .2,
-      omega (arith, gathered .1 .2),
+      gathered .long,
+      omega (arith, gathered .long),
       omega (arith, loop .inv .6, at-mem .mem .given),
       omega (arith, loop .inv .7, at-out2 .out2 .given),
       on .2 ∙ loop .inv .8,
@@ -227,7 +227,7 @@ loop-less-2 c =
     let start = at-loop .before .before .before .before .before .before .before in
     let loop = at-loop .loop in
     let a = start .args in
-    progress _ _ (a .chunk .now) (loop .next) _ _ (at-loop-test .loop-test .taken) (c .before .before .before .gather .ensures .0)
+    progress _ _ (a .chunk .now) (loop .next) _ _ (at-loop-test .loop-test .taken) (c .before .before .before .gather .ensures .gathered)
 
 loop-again-2 : tie.Need-loop-again-2 Inv-loop μ-loop
 loop-again-2 c =
@@ -238,16 +238,16 @@ loop-again-2 c =
     let loop = at-loop .loop in
     let a = start .args in
     let gathered = c .before .before .before .gather .ensures in (
-      gathered .1 .1,
+      gathered .within,
       loop .inv .1,
       loop .inv .2,
-      gathered .1 .0,
-      gathered .1 .2,
-      omega (arith, gathered .1 .2),
+      gathered .kept,
+      gathered .long,
+      omega (arith, gathered .long),
       loop .inv .6,
       loop .inv .7,
       open-on (loop .board) (loop .count) (loop .held) (loop .cr) (loop .line) (loop .mem) (loop .out) (loop .size) (drop (loop .next) (a .chunk .now)) _ _ _
-          (room _ _ (at-is-full .is-full .ensures) (at-if1 .if1 .left)) (gathered .0) (c .if2 .left) ∙ loop .inv .8,
+          (room _ _ (at-is-full .is-full .ensures) (at-if1 .if1 .left)) (gathered .gathered) (c .if2 .left) ∙ loop .inv .8,
     )
 
 fed-running-requires-2 : tie.Need-fed-running-requires-2 Inv-loop μ-loop

@@ -22,7 +22,7 @@ slice-reshare-prefix-take-set-up c = search needs
 slice-aggregate-take-set-up : tie.Need-slice-aggregate-take-set-up
 slice-aggregate-take-set-up c =
     let at-gather = c .before .before .before .before in
-    sym (length-take-le _ _ (omega (arith, at-gather .gather .ensures .1)))
+    sym (length-take-le _ _ (omega (arith, at-gather .gather .ensures .kept, at-gather .gather .ensures .long)))
 
 take-set-up-requires : tie.Need-take-set-up-requires
 take-set-up-requires c κs = search needs
@@ -47,14 +47,14 @@ returns c =
     let told = in-stage (a .session) (a .mem .now) (a .out .now) (a .len) Waiting _ _ _ _ _ (start .pre .0) tell in
     record {
       fed = fed-left (a .session) (a .line .now) (a .mem .now) (a .out .now) (a .len) (drop (a .at) (a .chunk .now)) _ _ _ (start .pre .3)
-          (reads-waiting (a .session .stage) (start .pre .0)) (gathered .gather .ensures .0) _ _ _ _ (at-if1 .if1 .taken) told
+          (reads-waiting (a .session .stage) (start .pre .0)) (gathered .gather .ensures .gathered) _ _ _ _ (at-if1 .if1 .taken) told
           (set-up-leaves (a .session) _ (a .mem .now) _ _ (a .out .now) _ (a .len) _ (start .pre .0) tell);
       ready = record {
         order = session-order _ (a .out .now) (a .len) _ _ _ _ told (record-order (runOf (a .session) (a .mem .now)) _ (start .pre .1 .order));
         held = omega (arith, ap (λ (s : Session). s .held) (tell .session));
-        long = gathered .gather .ensures .1 .2;
+        long = gathered .gather .ensures .long;
       };
-      within = gathered .gather .ensures .1 .1;
+      within = gathered .gather .ensures .within;
     }
 
 same-length-4 : tie.Need-same-length-4
@@ -74,9 +74,9 @@ returns-2 c =
         drop (found .next) (a .chunk .now),
       )) (sym (start .pre .0))
           ∙ fed-open (a .session) (a .line .now) (a .mem .now) (a .out .now) (a .len) (drop (a .at) (a .chunk .now)) _ _ _ (start .pre .3)
-          (reads-waiting (a .session .stage) (start .pre .0)) (gathered .gather .ensures .0) (c .before .if1 .left);
-      ready = record { order = λ q. still-waits q; held = gathered .gather .ensures .1 .0; long = gathered .gather .ensures .1 .2 };
-      within = gathered .gather .ensures .1 .1;
+          (reads-waiting (a .session .stage) (start .pre .0)) (gathered .gather .ensures .gathered) (c .before .if1 .left);
+      ready = record { order = λ q. still-waits q; held = gathered .gather .ensures .kept; long = gathered .gather .ensures .long };
+      within = gathered .gather .ensures .within;
     }
 
 pub feed-set-up-spec : {M : Type 1} → statement M

@@ -43,11 +43,14 @@ returns c =
     let h : Held = record { line = p .loop .line; held = p .loop .kept; cr = p .loop .last } in
     let l : p .loop .i < length s = omega arith in
     let k = c .before .before .before .keep-byte .ensures in
-    let closed = closes-by h (getD s (p .loop .i) 0) _ _ (at-is-closing .is-closing .ensures) (c .if1 .taken) in (
-      ap (λ (x : Held). record { held = x; left = drop (p .loop .i + 1) s; closed = true }) (put-byte h _ _ _ (k .0) (k .1))
-          ∙ sym (gather-closed h s (p .loop .i) l closed) ∙ p .loop .inv .4,
-      omega arith,
-    )
+    let closed = closes-by h (getD s (p .loop .i) 0) _ _ (at-is-closing .is-closing .ensures) (c .if1 .taken) in
+    record {
+      gathered = ap (λ (x : Held). record { held = x; left = drop (p .loop .i + 1) s; closed = true }) (put-byte h _ _ _ (k .0) (k .1))
+          ∙ sym (gather-closed h s (p .loop .i) l closed) ∙ p .loop .inv .4;
+      kept = omega arith;
+      within = omega arith;
+      long = omega arith;
+    }
 
 loop-less : tie.Need-loop-less Inv-loop μ-loop
 loop-less c = omega arith
@@ -78,7 +81,7 @@ returns-2 c =
     let s = p .before .before .before .args .chunk .now in
     let h : Held = record { line = p .loop .line; held = p .loop .kept; cr = p .loop .last } in
     let l : length s ≤ p .loop .i = omega arith in
-    (sym (gather-end h s (p .loop .i) l) ∙ p .loop .inv .4, omega arith)
+    record { gathered = sym (gather-end h s (p .loop .i) l) ∙ p .loop .inv .4; kept = omega arith; within = omega arith; long = omega arith }
 
 pub gather-spec : {M : Type 1} → statement M
 gather-spec =
