@@ -1,15 +1,17 @@
--- A caller's actions one after another: bytes offered, the output written out, two stretches joined. Assumes nothing.
+-- A caller's actions one after another: bytes offered, the output written out, two stretches joined; and actions that take
+-- nothing. Assumes nothing.
 use Prim.Native.Nat.{ℕ, _+_, _-_, _≤_, _<_}
 use mathlib.Core.Path.{_≡_, refl, sym, ap, _∙_, subst}
 use mathlib.Core.Bool.{Bool, true, false, cond}
 use mathlib.Core.List.{List, [], _∷_, _++_, append-assoc, append-nil}
 use native.Mathlib.Omega.{arith}
-use lib.ListN.{length, take, drop, length-drop}
-use lib.Seq.{take-add}
+use lib.ListN.{length, take, drop, length-drop, length-append}
+use lib.Seq.{take-add, length-take-le}
 use Rattle.printout.specs.Writing.{longestRow}
 use Rattle.schedule.specs.Feeding.{Feeding, feedOf, isFull, takeByte, sameStage}
 use Rattle.schedule.specs.WholeInput.{Action, offer, flush, Caller, output, act, acts, from, Takes}
 use Rattle.schedule.proofs.FedOn.{has-room}
+use Rattle.schedule.proofs.Feeding.{feed-full}
 use Rattle.schedule.proofs.WholeInput.{left-most}
 
 acts-then : (c : Caller) (before after : List Action) → acts c (before ++ after) ≡ acts (acts c before) after
@@ -105,3 +107,42 @@ module _ (g after : Feeding) (chunk : List ℕ) (at next : ℕ) (most : next ≤
 
   pub advances : longestRow ≤ length (g .out) - g .len → at < length chunk → at < next
   advances room more = omega (arith, left-of-chunk, less-left g (drop at chunk) (has-room g room) (omega (arith, length-drop at chunk)), length-drop at chunk)
+
+-- where nothing is taken the run is as it was
+offered-nothing : (f : Feeding) (bytes : List ℕ) → length bytes ≤ length (feedOf f bytes .1) → feedOf f bytes .0 ≡ f
+unfolding feedOf
+offered-nothing f [] none = refl
+offered-nothing f (byte ∷ bytes) none = go (isFull f) refl
+  where
+    go : (full : Bool) → isFull f ≡ full → feedOf f (byte ∷ bytes) .0 ≡ f
+    go true e = ap (λ (r : Feeding × List ℕ). r .0) (feed-full f (byte ∷ bytes) e)
+    go false e = absurd (omega (arith, none, less-left f (byte ∷ bytes) e (omega arith)))
+
+act-reads : (c : Caller) (action : Action) → length (c .read) ≤ length (act c action .read)
+act-reads c (offer bytes) = omega (arith, length-append (c .read) (take (length bytes - length (feedOf (c .feeding) bytes .1)) bytes))
+act-reads c flush = omega arith
+
+acts-read : (c : Caller) (actions : List Action) → length (c .read) ≤ length (acts c actions .read)
+unfolding acts
+acts-read c [] = omega arith
+acts-read c (action ∷ actions) = omega (arith, act-reads c action, acts-read (act c action) actions)
+
+act-still : (c : Caller) (action : Action) → length (act c action .read) ≤ length (c .read) → act c action .feeding .run ≡ c .feeding .run
+act-still c (offer bytes) none =
+    let count = length bytes - length (feedOf (c .feeding) bytes .1) in
+    let taken = length-append (c .read) (take count bytes) in
+    let counted = length-take-le count bytes (omega arith) in
+    ap (λ (f : Feeding). f .run) (offered-nothing (c .feeding) bytes (omega (arith, none, taken, counted)))
+act-still c flush none = refl
+
+acts-still : (c : Caller) (actions : List Action) → length (acts c actions .read) ≤ length (c .read) → acts c actions .feeding .run ≡ c .feeding .run
+unfolding acts
+acts-still c [] none = refl
+acts-still c (action ∷ actions) none =
+    acts-still (act c action) actions (omega (arith, none, act-reads c action))
+    ∙ act-still c action (omega (arith, none, acts-read (act c action) actions))
+
+pub takes-nothing : (f after : Feeding) (bytes written : List ℕ) → length bytes ≡ 0 → Takes f bytes written after → after .run ≡ f .run
+takes-nothing f after bytes written none takes =
+    let nothing : length (acts (from f) (takes .actions) .read) ≡ 0 = ap (λ (c : Caller). length (c .read)) (takes .leads) ∙ none in
+    sym (ap (λ (c : Caller). c .feeding .run) (takes .leads)) ∙ acts-still (from f) (takes .actions) (omega (arith, nothing))

@@ -83,8 +83,10 @@ pub(crate) fn feed_set_up(
     out: &mut [u8],
     len: usize,
 ) -> Fed
-    requires { ⌜ (session .stage ≡ Waiting) × Ready session (now line) (now mem) × (at ≤ length (now chunk)) × (longestRow ≤ length (now out) - len) ⌝ }
-    ensures { λ r. ⌜ Feeds session (now (chunk .entry)) at (now (line .entry)) (now (mem .entry)) (now (out .entry)) len r (now (line .exit)) (now (mem .exit)) (now (out .exit)) ⌝ }
+    requires { ⌜ (session .stage ≡ Waiting) × Ready session (now line) (now mem) × (at ≤ length (now chunk))
+        × (longestRow ≤ length (now out) - len) ⌝ }
+    ensures { λ r. ⌜ Feeds session (now (chunk .entry)) at (now (line .entry)) (now (mem .entry)) (now (out .entry)) len
+        r (now (line .exit)) (now (mem .exit)) (now (out .exit)) ⌝ }
 {
     let found = gather(session.held, session.cr, chunk, at, line);
     let held = found.held;
@@ -122,7 +124,8 @@ pub(crate) fn feed_running(
     len: usize,
 ) -> Fed
     requires { ⌜ (session .stage ≡ Running) × Ready session (now line) (now mem) × (at ≤ length (now chunk)) ⌝ }
-    ensures { λ r. ⌜ Feeds session (now (chunk .entry)) at (now (line .entry)) (now (mem .entry)) (now (out .entry)) len r (now (line .exit)) (now (mem .exit)) (now (out .exit)) ⌝ }
+    ensures { λ r. ⌜ Feeds session (now (chunk .entry)) at (now (line .entry)) (now (mem .entry)) (now (out .entry)) len
+        r (now (line .exit)) (now (mem .exit)) (now (out .exit)) ⌝ }
 {
     let mut board = session.board;
     let s = board.settings;

@@ -23,7 +23,8 @@ fn is_closing(byte: u8, cr: bool) -> bool
 
 fn keep_byte(line: &mut [u8], held: usize, byte: u8) -> usize
     requires { ⌜ (length (now line) ≡ lineLength) × (held ≤ lineLength) ⌝ }
-    ensures { λ r. ⌜ (now (line .exit) ≡ put (record { line = now (line .entry); held = held; cr = false }) byte .line) × (r ≡ put (record { line = now (line .entry); held = held; cr = false }) byte .held) × (r ≤ lineLength) ⌝ }
+    ensures { λ r. ⌜ (now (line .exit) ≡ put (record { line = now (line .entry); held = held; cr = false }) byte .line)
+        × (r ≡ put (record { line = now (line .entry); held = held; cr = false }) byte .held) × (r ≤ lineLength) ⌝ }
 {
     if held < LINE_LENGTH {
         line[held] = byte;

@@ -51,7 +51,8 @@ pub struct Fed {
 
 // A run that waits for its set-up; the heading is written.
 pub fn start(out: &mut [u8]) -> Next
-    ensures { λ r. ⌜ (r .session ≡ sessionOf beginningRun) × (_≡_ {A = Written} (now (out .exit), r .len) (putHeading (now (out .entry)) 0)) ⌝ }
+    ensures { λ r. ⌜ (r .session ≡ sessionOf beginningRun)
+        × (_≡_ {A = Written} (now (out .exit), r .len) (putHeading (now (out .entry)) 0)) ⌝ }
 {
     let len = put_heading(out, 0);
     let board = blank_board();
@@ -90,7 +91,8 @@ pub fn feed(
     len: usize,
 ) -> Fed
     requires { ⌜ Ready session (now line) (now mem) × (at ≤ length (now chunk)) ⌝ }
-    ensures { λ r. ⌜ Feeds session (now (chunk .entry)) at (now (line .entry)) (now (mem .entry)) (now (out .entry)) len r (now (line .exit)) (now (mem .exit)) (now (out .exit)) ⌝ }
+    ensures { λ r. ⌜ Feeds session (now (chunk .entry)) at (now (line .entry)) (now (mem .entry)) (now (out .entry)) len
+        r (now (line .exit)) (now (mem .exit)) (now (out .exit)) ⌝ }
 {
     if chunks::is_full(out.len(), len) {
         return Fed {
@@ -114,7 +116,8 @@ pub fn feed(
 // The input has ended: a last record without its pair is answered.
 pub fn finish(session: Session, line: &[u8], mem: &mut [u64], out: &mut [u8], len: usize) -> Next
     requires { ⌜ Ready session (now line) (now mem) × (longestRow ≤ length (now out) - len) ⌝ }
-    ensures { λ r. ⌜ feeding (r .session) (now (line .entry)) (now (mem .exit)) (now (out .exit)) (r .len) ≡ finishOf (feeding session (now (line .entry)) (now (mem .entry)) (now (out .entry)) len) ⌝ }
+    ensures { λ r. ⌜ feeding (r .session) (now (line .entry)) (now (mem .exit)) (now (out .exit)) (r .len)
+        ≡ finishOf (feeding session (now (line .entry)) (now (mem .entry)) (now (out .entry)) len) ⌝ }
 {
     let held = session.held;
     if held == 0 {

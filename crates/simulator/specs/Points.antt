@@ -4,18 +4,26 @@ use Prim.Native.Nat.{ℕ, _+_, _-_, _≤_}
 use mathlib.Core.Path.{_≡_}
 use mathlib.Core.Bool.{false, true}
 use mathlib.Core.List.{List}
-use lib.ListN.{length, take}
+use lib.ListN.{length, take, replicate}
 use Rattle.printout.specs.Writing.{longestRow}
 use Rattle.answers.specs.Run.{printoutOf}
 use Rattle.schedule.specs.declared.Session.{Session}
 use Rattle.schedule.specs.Feeding.{Feeding, feeding, finishOf}
+use Rattle.schedule.specs.Gathering.{lineLength}
 use Rattle.schedule.specs.Longest.{longestPrintout, mayHold}
 use Rattle.schedule.specs.Ready.{Ready}
 use Rattle.schedule.specs.WholeInput.{Takes, Ends, started}
 use Rattle.simulator.specs.declared.input.Input.{Input}
 use Rattle.simulator.specs.declared.output.Output.{Output}
-use Rattle.simulator.specs.Inputs.{Reads, stopped}
+use Rattle.simulator.specs.Inputs.{Reads, bufferLength, stopped}
 use Rattle.simulator.specs.Outputs.{MakesRoom, Counts}
+
+-- what `main` lends to a run: a line of 513 bytes, 144 words that are 0, a buffer to read into, and an output with room for a row
+pub record Lent (line words buffer out : List ℕ) : Type 0 where
+  pub line-long : length line ≡ lineLength
+  pub words-clear : words ≡ replicate 144 0
+  pub buffer-long : length buffer ≡ bufferLength
+  pub room : longestRow ≤ length out
 
 pub record Point : Type 0 where
   pub session : Session

@@ -6,14 +6,12 @@
 ghost use mathlib.Core.Path.{_≡_};
 ghost use mathlib.Core.Bool.{_||_};
 ghost use Prim.Native.Nat.{_+_, _≤_, _<_};
-ghost use lib.ListN.{length, replicate};
-ghost use Rattle.printout.specs.Writing.{longestRow};
+ghost use lib.ListN.{length};
 ghost use Rattle.schedule.specs.Feeding.{isOver};
-ghost use Rattle.schedule.specs.Gathering.{lineLength};
 ghost use Rattle.schedule.specs.Longest.{longestPrintout};
 ghost use Rattle.simulator.specs.Inputs.{countLimit, bufferLength};
 ghost use Rattle.simulator.specs.Outputs.{MakesRoom};
-ghost use Rattle.simulator.specs.Points.{point, Stands, TakesChunk, Turns, ReadsAll, Finishes, Runs, Prints};
+ghost use Rattle.simulator.specs.Points.{Lent, point, Stands, TakesChunk, Turns, ReadsAll, Finishes, Runs, Prints};
 
 mod input; // input.rt: the bytes read from standard input
 mod output; // output.rt: the bytes that wait for standard output
@@ -64,7 +62,9 @@ fn take_chunk(
     out: &mut [u8],
 ) -> State
     requires { ⌜ Stands (point session (now line) (now mem) (now out) held) ⌝ }
-    ensures { λ r. ⌜ TakesChunk (point session (now (line .entry)) (now (mem .entry)) (now (out .entry)) held) (now (chunk .entry)) (point (r .session) (now (line .exit)) (now (mem .exit)) (now (out .exit)) (r .held)) ⌝ }
+    ensures { λ r. ⌜ TakesChunk
+        (point session (now (line .entry)) (now (mem .entry)) (now (out .entry)) held) (now (chunk .entry))
+        (point (r .session) (now (line .exit)) (now (mem .exit)) (now (out .exit)) (r .held)) ⌝ }
 {
     let mut run = session;
     let mut output = held;
@@ -94,7 +94,9 @@ fn turn(
     out: &mut [u8],
 ) -> AfterRead
     requires { ⌜ Stands (point session (now line) (now mem) (now out) held) × (input .total + length (now buffer) < countLimit) ⌝ }
-    ensures { λ r. ⌜ Turns (point session (now (line .entry)) (now (mem .entry)) (now (out .entry)) held) input (point (r .state .session) (now (line .exit)) (now (mem .exit)) (now (out .exit)) (r .state .held)) (r .input) (now (buffer .exit)) ⌝ }
+    ensures { λ r. ⌜ Turns
+        (point session (now (line .entry)) (now (mem .entry)) (now (out .entry)) held) input
+        (point (r .state .session) (now (line .exit)) (now (mem .exit)) (now (out .exit)) (r .state .held)) (r .input) (now (buffer .exit)) ⌝ }
 {
     let after = input::read(input, buffer);
     let got = input::total(after) - input::total(input);
@@ -124,7 +126,9 @@ fn read_all(
     out: &mut [u8],
 ) -> AfterRead
     requires { ⌜ Stands (point session (now line) (now mem) (now out) held) × (length (now buffer) ≡ bufferLength) ⌝ }
-    ensures { λ r. ⌜ ReadsAll (point session (now (line .entry)) (now (mem .entry)) (now (out .entry)) held) (point (r .state .session) (now (line .exit)) (now (mem .exit)) (now (out .exit)) (r .state .held)) (r .input) ⌝ }
+    ensures { λ r. ⌜ ReadsAll
+        (point session (now (line .entry)) (now (mem .entry)) (now (out .entry)) held)
+        (point (r .state .session) (now (line .exit)) (now (mem .exit)) (now (out .exit)) (r .state .held)) (r .input) ⌝ }
 {
     let mut run = session;
     let mut output = held;
@@ -163,7 +167,7 @@ fn end(session: Session, held: Output, line: &[u8], mem: &mut [u64], out: &mut [
 
 // A whole run, but for what waits at its end.
 fn run(line: &mut [u8], mem: &mut [u64], buffer: &mut [u8], out: &mut [u8]) -> Ended
-    requires { ⌜ (length (now line) ≡ lineLength) × (now mem ≡ replicate 144 0) × (length (now buffer) ≡ bufferLength) × (longestRow ≤ length (now out)) ⌝ }
+    requires { ⌜ Lent (now line) (now mem) (now buffer) (now out) ⌝ }
     ensures { λ r. ⌜ Runs (now (line .entry)) (now (out .entry)) (now (out .exit)) (r .held) (r .input) ⌝ }
 {
     let begun = schedule::start(out);
@@ -182,7 +186,7 @@ fn run(line: &mut [u8], mem: &mut [u64], buffer: &mut [u8], out: &mut [u8]) -> E
 
 // A whole run, of which nothing waits any more.
 fn print(line: &mut [u8], mem: &mut [u64], buffer: &mut [u8], out: &mut [u8]) -> Ended
-    requires { ⌜ (length (now line) ≡ lineLength) × (now mem ≡ replicate 144 0) × (length (now buffer) ≡ bufferLength) × (longestRow ≤ length (now out)) ⌝ }
+    requires { ⌜ Lent (now line) (now mem) (now buffer) (now out) ⌝ }
     ensures { λ r. ⌜ Prints (now (line .entry)) (now (out .entry)) (now (out .exit)) (r .held) (r .input) ⌝ }
 {
     let ended = run(line, mem, buffer, out);

@@ -18,7 +18,7 @@ slice-aggregate-print-4 : tie.Need-slice-aggregate-print-4
 slice-aggregate-print-4 c = search needs
 
 print-requires : tie.Need-print-requires
-print-requires c κs = (refl, refl, search needs, search needs)
+print-requires c κs = record { line-long = refl; words-clear = refl; buffer-long = search needs; room = search needs }
 
 returns : tie.Need-returns
 returns c = search needs

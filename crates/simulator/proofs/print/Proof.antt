@@ -27,7 +27,7 @@ returns c =
     let at-flush = c .before in
     let at-run = at-flush .before .before .before .before .before .before .before .before .before .before .before in
     let start = at-run .before .before .before .before .before .before .before .before .before in
-    prints _ _ _ _ _ _ (start .pre .0) (start .pre .3) (at-run .run .ensures) (at-flush .flush .ensures)
+    prints _ _ _ _ _ _ (start .pre .line-long) (start .pre .room) (at-run .run .ensures) (at-flush .flush .ensures)
 
 pub print-spec : {M : Type 1} → statement M
 print-spec =

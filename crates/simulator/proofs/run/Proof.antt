@@ -18,7 +18,7 @@ begun-requires c κs =
     let at-start = c .before .before .before in
     let start = at-start .before .before .before .before .before .before in
     let begun = at-start .start .ensures in
-    ap (λ (f : Feeding). f .len) (start-is _ (start .args .line .now) (start .args .out .now) _ _ (begun .0) (begun .1) (start .pre .3))
+    ap (λ (f : Feeding). f .len) (start-is _ (start .args .line .now) (start .args .out .now) _ _ (begun .0) (begun .1) (start .pre .room))
 
 read-all-requires : tie.Need-read-all-requires
 read-all-requires c κs =
@@ -27,9 +27,9 @@ read-all-requires c κs =
     let at-start = at-out .before in
     let start = at-start .before .before .before .before .before .before in
     let begun = at-start .start .ensures in (
-      stands-first _ (start .args .line .now) (start .args .mem .now) (start .args .out .now) _ _ _ (begun .0) (begun .1) (start .pre .3) (start .pre .1)
-          (at-begun .begun .ensures) (start .pre .0) (at-out .out .given),
-      start .pre .2,
+      stands-first _ (start .args .line .now) (start .args .mem .now) (start .args .out .now) _ _ _ (begun .0) (begun .1) (start .pre .room) (start .pre .words-clear)
+          (at-begun .begun .ensures) (start .pre .line-long) (at-out .out .given),
+      start .pre .buffer-long,
     )
 
 end-requires : tie.Need-end-requires
@@ -59,10 +59,10 @@ returns c =
     let at-start = at-begun .before .before .before .before in
     let start = at-start .before .before .before .before .before .before in
     let begun = at-start .start .ensures in
-    let begins-here = begins _ (start .args .line .now) (start .args .mem .now) (start .args .out .now) _ _ _ (begun .0) (begun .1) (start .pre .3)
-    (start .pre .1) (at-begun .begun .ensures) in
-    let unwritten-here = unwritten _ (start .args .line .now) (start .args .mem .now) (start .args .out .now) _ _ _ (begun .0) (begun .1) (start .pre .3)
-    (start .pre .1) (at-begun .begun .ensures) in
+    let begins-here = begins _ (start .args .line .now) (start .args .mem .now) (start .args .out .now) _ _ _ (begun .0) (begun .1) (start .pre .room)
+    (start .pre .words-clear) (at-begun .begun .ensures) in
+    let unwritten-here = unwritten _ (start .args .line .now) (start .args .mem .now) (start .args .out .now) _ _ _ (begun .0) (begun .1) (start .pre .room)
+    (start .pre .words-clear) (at-begun .begun .ensures) in
     runs _ _ _ begins-here unwritten-here _ _ (at-read .read-all .ensures) _ _ (at-end .end .ensures)
 
 pub run-spec : {M : Type 1} → statement M
