@@ -1,9 +1,8 @@
 -- The end of a run: where all was read, room is made and the last row put, the whole-input theorem tells what was written and
 -- what still waits. Assumes nothing.
-use Prim.Native.Nat.{ℕ, _+_, _-_, _≤_}
+use Prim.Native.Nat.{ℕ, _-_, _≤_}
 use native.Mathlib.Omega.{arith}
 use mathlib.Core.Path.{_≡_, refl, sym, ap, _∙_, subst}
-use mathlib.Core.Bool.{true, false}
 use mathlib.Core.List.{List, [], _++_, append-nil}
 use lib.ListN.{length, take, length-append}
 use lib.Seq.{length-take-le}
@@ -11,7 +10,7 @@ use Rattle.printout.specs.Writing.{longestRow}
 use Rattle.answers.specs.Run.{printoutOf}
 use Rattle.schedule.specs.Feeding.{Feeding, finishOf}
 use Rattle.schedule.specs.Gathering.{lineLength}
-use Rattle.schedule.specs.Longest.{longestPrintout, mayHold}
+use Rattle.schedule.specs.Longest.{mayHold}
 use Rattle.schedule.specs.WholeInput.{Takes, Ends, started}
 use Rattle.schedule.proofs.Callers.{finished-grown}
 use Rattle.schedule.proofs.FedOn.{has-room}
@@ -20,7 +19,7 @@ use Rattle.schedule.proofs.WholeInput.{whole-input}
 use Rattle.simulator.specs.declared.input.Input.{Input}
 use Rattle.simulator.specs.declared.output.Output.{Output}
 use Rattle.simulator.specs.Outputs.{Flushes}
-use Rattle.simulator.specs.Points.{Point, feedingAt, Stands, Taken, ReadsAll, Finishes, Runs, Prints}
+use Rattle.simulator.specs.Points.{Point, feedingAt, Taken, ReadsAll, Finishes, Runs, Prints}
 use Rattle.simulator.proofs.Outputs.{flush-counts}
 use Rattle.simulator.proofs.Points.{withOutput, taken-both, room-taken, room-stands, room-free}
 

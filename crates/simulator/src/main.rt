@@ -1,8 +1,9 @@
 // The program: a schedule read from standard input to its end, and its printout written to standard output. Contracts say that
-// all that was read is taken, each byte once and in order, up to the end of the input or of the run; and that, where no write
-// failed, as many bytes were written as the printout of those has, each after it was put and before another stood in its
-// place. What they cannot say is which bytes the system reads and writes: that is to be believed of the one read in input.rt
-// and the one write in output.rt, and that no result of `input::read` or `output::flush` is left unused here.
+// of each read all bytes are taken, once and in order (`turn`), that reads go on to the end of the input or of the run, and that
+// as many bytes are taken as were read; that what is put into the output is written before another stands in its place, and
+// so that, where no write failed, as many bytes were written as the printout of those taken has (`print`). What they cannot say
+// is which bytes the system reads and writes: that is to be believed of the one read in input.rt and the one write in output.rt;
+// and of this file that `turn` alone feeds the run, and that no result of `input::read` or `output::flush` is left unused.
 ghost use mathlib.Core.Path.{_≡_};
 ghost use mathlib.Core.Bool.{_||_};
 ghost use Prim.Native.Nat.{_+_, _≤_, _<_};

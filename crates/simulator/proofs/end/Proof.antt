@@ -1,12 +1,10 @@
 -- `end` meets its contract: with room made, the last record's row is put into the output. Assumes nothing.
 use Prim.Native.Nat.{ℕ}
 use native.Mathlib.Omega.{arith}
-use mathlib.Core.Path.{sym, ap, _∙_}
+use mathlib.Core.Path.{ap, _∙_}
 use borrow.Author.Needs.{needs}
 use Rattle.schedule.specs.Feeding.{Feeding, feeding, finishOf}
 use Rattle.schedule.proofs.Callers.{finished-grown}
-use Rattle.simulator.specs.declared.output.Output.{Output}
-use Rattle.simulator.specs.Points.{point}
 use Rattle.simulator.proofs.Points.{can-flush, room-free}
 use Rattle.simulator.proofs.end.Statement.{statement}
 use Rattle.simulator.proofs.end.Tie as tie
