@@ -9,15 +9,15 @@ use Rattle.record.specs.declared.words.ActRead.{ActRead}
 use Rattle.record.specs.declared.words.ActRead.the-variants.{Known, Unknown}
 use Rattle.record.specs.declared.words.KindRead.{KindRead}
 use Rattle.record.specs.declared.words.KindRead.the-variants.{Known as KnownKind, Unknown as UnknownKind}
-use Rattle.rules.specs.Text.{ascii}
+use Rattle.rules.specs.Text.{ascii, loadText, validateText, storeText, stepText}
 use Rattle.rules.specs.declared.Kind.{Kind}
 use Rattle.rules.specs.declared.Kind.the-variants.{One, Many}
 
 abbrev pub actWord : Act → List ℕ
-actWord Load = ascii "LL"
-actWord Validate = ascii "VL"
-actWord Store = ascii "SC"
-actWord Step = ascii "step"
+actWord Load = loadText
+actWord Validate = validateText
+actWord Store = storeText
+actWord Step = stepText
 
 abbrev pub kindWord : Kind → List ℕ
 kindWord One = ascii "one"

@@ -4,6 +4,8 @@
 -- what a function changed at one place does, and what a run keeps
 pub mod Change
 pub mod Runs
+pub mod Owns
+pub mod Called
 -- 1. step counts, over the rules themselves, with no premise: `Steps.bounded`
 pub mod Steps
 -- 2. the rules over versions that never come round, in place of tags: a means of proof

@@ -3,6 +3,7 @@
 pub mod Tests
 pub mod Trying
 pub mod Branches
+pub mod Calls
 pub mod Sizes
 pub mod Sequences
 pub mod Refusals
@@ -10,4 +11,5 @@ pub mod Changes
 pub mod GoodForm
 pub mod Cases
 pub mod Demand3
+pub mod Stated
 pub mod Theorems

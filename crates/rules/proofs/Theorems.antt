@@ -22,27 +22,27 @@ pub use Rattle.rules.proofs.Sequences.Closing.{closes, close-in}
 -- opening or closing one variable's sequence changes no other's
 pub use Rattle.rules.proofs.Sequences.Closing.{opening-opens, opening-no-other, closing-closes, closing-no-other}
 -- the count of ones is the count over the variables; opening adds one, closing takes one off
-pub use Rattle.rules.proofs.Sequences.Counts.{counted, count-none, opening-counts, closing-counts, reopening-counts, shut-counts}
+pub use Rattle.rules.proofs.Stated.{ones-counted}
+pub use Rattle.rules.proofs.Sequences.Counts.{count-none, opening-counts, closing-counts, reopening-counts, shut-counts}
 -- a check is passed exactly if sizes, room, good form, process number and what the call needs are right
 pub use Rattle.rules.proofs.Refusals.Checked.{Stands, stands, stands-fine, Accepted, accepted, accepted-fine, step-accepted, step-fine, Beginning, begin-accepted, begin-fine}
--- a refusal leaves board and words as found, and is answered exactly where the check gives it
-pub use Rattle.rules.proofs.Refusals.Refusing.{set-up-refused, begin-refused, step-refused, count-refused, set-up-refuses, begin-refuses, step-refuses}
+-- a refusal leaves board and words as found, and is answered exactly when its check finds it; every entry point refuses the
+-- blank board 1
+pub use Rattle.rules.proofs.Stated.{refusals-leave-all, refused-exactly, blank-refused}
 -- what 1 to 4 find is answered before all else; past them, a step is that of its one process
 pub use Rattle.rules.proofs.Refusals.Refusing.{begin-refused-first, step-refused-first}
 pub use Rattle.rules.proofs.Refusals.OneProcess.{idle-step, step-served}
--- every entry point refuses the blank board 1
-pub use Rattle.rules.proofs.Refusals.Refusing.{blank-check, blank-begin, blank-step, blank-count}
 -- a fresh set-up is in good form, its words used are 0, and those past them are as lent
 pub use Rattle.rules.proofs.GoodForm.Fresh.{set-up-accepted, set-up-in-form, fresh-zero, fresh-past, fresh-length}
--- every accepted begin and step keeps good form
-pub use Rattle.rules.proofs.GoodForm.Keeps.{begin-keeps, step-keeps}
--- good form holds after any events from an accepted set-up
-pub use Rattle.rules.proofs.GoodForm.Runs.{Running, always-in-form}
+-- every accepted begin and step keeps good form, and it holds after any events from an accepted set-up
+pub use Rattle.rules.proofs.Stated.{good-form-kept}
 -- at each place: a load's first step opens its sequence, a store's answer closes it; a step writes at most the word that
 -- the place names, leaves the other variables' sequences and keep-words and the new values, and answers no refusal
 pub use Rattle.rules.proofs.Changes.Frame.{Framed, framed}
--- a step writes at most one word, which is its variable's or in the own announce row
-pub use Rattle.rules.proofs.Changes.Reach.{one-word, Where, place-writes, writes-used}
+-- one step is one access: it sees no word but the one at its place's address, changes no other, and that one is among the words used
+pub use Rattle.rules.proofs.Changes.Access.{one-access}
+-- the word that a step may write is its variable's or in the own announce row
+pub use Rattle.rules.proofs.Changes.Reach.{Where, place-writes, writes-used}
 -- neither a begin nor a step changes another process or the settings
 pub use Rattle.rules.proofs.Changes.Leaves.{begin-no-other, step-no-other, begin-settings, step-settings}
 -- a step changes no word past those used, none of another variable, none of another process's announce row

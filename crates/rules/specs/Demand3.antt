@@ -1,18 +1,20 @@
 -- Demand 3 of the order: why an answer is what it is. Stated over demand 2's entry rules and Figure 2's table.
 use mathlib.Core.Path.{_≡_}
 use mathlib.Core.Logic.{_≢_}
-use mathlib.Core.Bool.{Bool, true, false}
+use mathlib.Core.Bool.{Bool, true, false, not}
 use mathlib.Core.List.{List, [], _∷_}
 use Prim.Native.Nat.{ℕ, _-_, _^_, _≤_, _<_}
+use lib.Dec.{eqb}
 use lib.ListN.{length, getD}
 use Rattle.rules.specs.Entry.{setUpRule}
 use Rattle.rules.specs.Figure2.{Returned, content, truth}
-use Rattle.rules.specs.Onlooker.{Seen, seenIn, variableAt, placeOf, answerOf, taken, noteOf, stores}
-use Rattle.rules.specs.OwnSteps.{Own, ownSteps, mostSteps}
-use Rattle.rules.specs.Processes.{isIdle}
+use Rattle.rules.specs.Onlooker.{Seen, seenIn, noteOf, stores}
+use Rattle.rules.specs.OwnSteps.{Own, ownIn, answerOf, taken, isBusy, answersCall, mostSteps}
+use Rattle.rules.specs.Processes.{isIdle, processAt}
+use Rattle.rules.specs.Refusals.{variableOf}
 use Rattle.rules.specs.Runs.{State, Event, begin, step, entry, fresh, run}
 use Rattle.rules.specs.Sizes.{bits}
-use Rattle.rules.specs.Types.{Answer, Value, Witness, Yes, No, Place, Idle, LoadReadsWord, ValidateReadsWord, StoreSwapsWord, LoadReadsHeader, ValidateReadsHeader, StoreReadsHeader, StoreAnnounces, StoreSwapsHeader, ReadsSegment, ReadsAnnounced, SwapsSegment, ReadsSegmentAgain, ReadsHeader, Settings, Ready}
+use Rattle.rules.specs.Types.{Answer, Value, Witness, Yes, No, Call, Load, Validate, Store, Settings, Ready}
 
 -- From a fresh set-up of any settings that stand, events in any order, the last of which stands first; then process `me`
 -- takes a step.
@@ -36,13 +38,13 @@ answer t = answerOf (step (t .me)) (before t)
 abbrev pub answered : Turn → ℕ → ℕ
 answered t i = getD (entry (step (t .me)) (before t) .0 .values) i 0
 
--- where the process stands before the step
-abbrev pub place : Turn → Place
-place t = placeOf (before t) (t .me)
+-- what the process has begun, and the steps that it has taken of it, before this step
+abbrev pub own : Turn → Own
+own t = ownIn (start t) (t .events) (t .me)
 
--- what was seen of the call's variable, up to this step and with it
+-- what was seen of the variable of that call, up to this step and with it
 abbrev pub seen : Turn → Seen
-seen t = seenIn (start t) (step (t .me) ∷ t .events) (variableAt (place t))
+seen t = seenIn (start t) (step (t .me) ∷ t .events) (variableOf (own t .call))
 
 -- who stored there with success since the first step of the process's last load there; the last one stands first
 abbrev pub since : Turn → List ℕ
@@ -70,29 +72,18 @@ abbrev pub Few : Turn → Type 0
 Few t = AtMost (mostStores (bits (t .settings))) t
 
 -- past the first step of a load, or in a validate or a store
-abbrev pub inSequence : Place → Bool
-inSequence Idle = false
-inSequence (LoadReadsWord x) = false
-inSequence (ValidateReadsWord x) = true
-inSequence (StoreSwapsWord x) = true
-inSequence (LoadReadsHeader x) = false
-inSequence (ValidateReadsHeader x) = true
-inSequence (StoreReadsHeader x) = true
-inSequence (StoreAnnounces x header i) = true
-inSequence (StoreSwapsHeader x header) = true
-inSequence (ReadsSegment c) = true
-inSequence (ReadsAnnounced c read) = true
-inSequence (SwapsSegment c read announced) = true
-inSequence (ReadsSegmentAgain c) = true
-inSequence (ReadsHeader c value) = true
+abbrev pub inSequence : Call → ℕ → Bool
+inSequence (Load x) steps = not (eqb steps 0)
+inSequence (Validate x) steps = true
+inSequence (Store x) steps = true
 
 -- A weaker premise: whenever a process takes a step in its sequence on a variable, at most 2^b - 2 stores have succeeded
 -- there since the first step of its load. A process that has stopped may be overtaken any number of times.
 abbrev pub Short : State → ℕ → List Event → ℕ → Type 0
 Short s b events me =
     taken (answerOf (step me) (run s events)) ≡ true
-    → inSequence (placeOf (run s events) me) ≡ true
-    → length (seenIn s events (variableAt (placeOf (run s events) me)) .since me) ≤ mostStores b
+    → inSequence (ownIn s events me .call) (ownIn s events me .steps) ≡ true
+    → length (seenIn s events (variableOf (ownIn s events me .call)) .since me) ≤ mostStores b
 
 unfoldable pub AllShort : State → ℕ → List Event → Type 0
 AllShort s b [] = Unit {0}
@@ -111,7 +102,7 @@ pub record AnswersRight (Premise : Turn → Type 0) : Type 0 where
   pub no-is-atomic : (t : Turn) → Premise t → answer t ≡ No → due t ≡ truth false
   -- at its successful swap, or at the step that found the difference, a store is to Figure 2's SC what it is to the board
   pub store-counts : (t : Turn) → Premise t → taken (answer t) ≡ true → (new : ℕ → ℕ) (swapped : Bool) →
-      noteOf (step (t .me)) (before t) ≡ stores new swapped → due t ≡ truth swapped
+      noteOf (t .settings) (step (t .me)) (own t) (answer t) ≡ stores new swapped → due t ≡ truth swapped
   -- each "no" has a successful store by another process to that variable since the first step of the LL that last opened
   -- the sequence
   pub no-has-another : (t : Turn) → Premise t → answer t ≡ No → Another (t .me) (since t)
@@ -122,16 +113,21 @@ pub record AnswersRight (Premise : Turn → Type 0) : Type 0 where
   pub values-if-none : (t : Turn) → Premise t → answer t ≡ Value → since t ≡ []
   pub witness-if-some : (t : Turn) → Premise t → (q : ℕ) → answer t ≡ Witness q → since t ≢ []
 
--- what the process has taken of its call before the step
-abbrev pub own : Turn → Own
-own t = ownSteps (start t) (t .events) (t .me)
+-- whether the process is idle before the step
+abbrev pub idle : Turn → Bool
+idle t = isIdle (processAt (before t .board) (t .me) .place)
 
 -- with no premise on the others, and none on tags: a call takes no more steps than its most, and has its answer by then
 pub record StepsBounded : Type 0 where
   pub never-more : (t : Turn) → own t .steps ≤ mostSteps (t .settings) (own t .call)
-  pub answered-by-then : (t : Turn) → isIdle (place t) ≡ false → own t .steps < mostSteps (t .settings) (own t .call)
+  pub answered-by-then : (t : Turn) → own t .waits ≡ true → own t .steps < mostSteps (t .settings) (own t .call)
   -- a process in a call can always take its next step
-  pub never-refused : (t : Turn) → isIdle (place t) ≡ false → taken (answer t) ≡ true
+  pub never-refused : (t : Turn) → own t .waits ≡ true → taken (answer t) ≡ true
+  -- the last step of a call gives its answer and makes its process idle: no other step does, and no other answer than `busy`
+  -- comes before it
+  pub idle-if-answered : (t : Turn) → idle t ≡ not (own t .waits)
+  -- and that answer is one to the call that was begun
+  pub answers-its-call : (t : Turn) → taken (answer t) ≡ true → isBusy (answer t) ≡ false → answersCall (own t .call) (answer t) ≡ true
 
 pub record Demand3 : Type 0 where
   pub answers : AnswersRight Few

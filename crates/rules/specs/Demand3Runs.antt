@@ -7,7 +7,7 @@ use lib.ListN.{replicate}
 use Rattle.rules.specs.Demand3.{Turn, start, answer, answered, AtMost, Few, AnswersRight}
 use Rattle.rules.specs.Entry.{setUpRule}
 use Rattle.rules.specs.Onlooker.{seenIn}
-use Rattle.rules.specs.OwnSteps.{ownSteps}
+use Rattle.rules.specs.OwnSteps.{ownIn}
 use Rattle.rules.specs.Runs.{Event, step}
 use Rattle.rules.specs.Schedules.{settings, ll, sc, times, p7Events, p8Events}
 use Rattle.rules.specs.Sizes.{bits}
@@ -34,8 +34,8 @@ pub record Meets (s : Settings) (events : List Event) (me stores : ℕ) (a : Ans
 pub record TakesSteps (s : Settings) (events : List Event) (me : ℕ) (a : Answer) (call : Call) (steps : ℕ) : Type 0 where
   pub ready : setUpRule s (replicate 4 0) .0 .start ≡ Ready
   pub answers : answer (turnOf s ready events me) ≡ a
-  pub took : ownSteps (start (turnOf s ready events me)) (step me ∷ turnOf s ready events me .events) me
-      ≡ record { call = call; steps = steps }
+  pub its : ownIn (start (turnOf s ready events me)) (step me ∷ turnOf s ready events me .events) me .call ≡ call
+  pub took : ownIn (start (turnOf s ready events me)) (step me ∷ turnOf s ready events me .events) me .steps ≡ steps
 
 abbrev pub one4 : Settings
 one4 = settings 2 One 1 4 1

@@ -9,6 +9,7 @@ pub mod Steps
 pub mod GoodForm
 pub mod Refusals
 pub mod Entry
+pub mod OneAccess
 -- What contracts behind the entry points ask for
 pub mod Bounds
 pub mod InForm
@@ -16,10 +17,11 @@ pub mod InForm
 pub mod Text
 pub mod Answers
 pub mod Runs
+pub mod Statements
 pub mod Schedules
 -- Demand 3
 pub mod Figure2
-pub mod Onlooker
 pub mod OwnSteps
+pub mod Onlooker
 pub mod Demand3
 pub mod Demand3Runs

@@ -1,15 +1,16 @@
 -- An onlooker of a run. For each variable it moves Figure 2's table at the steps that document 01 names under "Atomic
--- answers", and writes down who stored there. It goes by what can be seen from outside: where the process stood before
--- the event, and what the entry rule answered.
-use mathlib.Core.Bool.{Bool, true, false, cond, not}
+-- answers", and writes down who stored there. It goes by what can be seen from outside: what each process has begun, how
+-- many steps it has taken since, and what the entry rule answered. It looks into no board.
+use mathlib.Core.Bool.{Bool, true, false, cond}
 use mathlib.Core.List.{List, [], _∷_}
-use Prim.Native.Nat.{ℕ, suc}
+use Prim.Native.Nat.{ℕ, suc, _+_}
+use lib.Dec.{eqb}
 use lib.ListN.{getD}
 use Rattle.rules.specs.Figure2.{change, Atomic, Returned, nothing, LL, VL, SC}
-use Rattle.rules.specs.Processes.{processAt}
+use Rattle.rules.specs.OwnSteps.{Own, answerOf, taken, ownIn}
 use Rattle.rules.specs.Refusals.{variableOf}
-use Rattle.rules.specs.Runs.{State, Event, begin, step, processOf, entry, run}
-use Rattle.rules.specs.Types.{Answer, Begun, Busy, Value, Witness, Yes, No, AnswerRefused, Place, Idle, LoadReadsWord, ValidateReadsWord, StoreSwapsWord, LoadReadsHeader, ValidateReadsHeader, StoreReadsHeader, StoreAnnounces, StoreSwapsHeader, ReadsSegment, ReadsAnnounced, SwapsSegment, ReadsSegmentAgain, ReadsHeader, Process}
+use Rattle.rules.specs.Runs.{State, Event, begin, step, processOf, run}
+use Rattle.rules.specs.Types.{Answer, Begun, Busy, Value, Witness, Yes, No, AnswerRefused, Call, Load, Validate, Store, Kind, One, Many, Settings}
 
 -- what was seen of one variable
 pub record Seen : Type 0 where
@@ -80,77 +81,44 @@ isNo Yes = false
 isNo No = true
 isNo (AnswerRefused refusal) = false
 
--- the entry point took the event
-abbrev pub taken : Answer → Bool
-taken Begun = true
-taken Busy = true
-taken Value = true
-taken (Witness q) = true
-taken Yes = true
-taken No = true
-taken (AnswerRefused refusal) = false
+-- the steps that a store takes before its swap of the word or header: of kind `many` it reads the header and announces its
+-- W values first
+abbrev pub beforeSwap : Kind → ℕ → ℕ
+beforeSwap One w = 0
+beforeSwap Many w = 1 + w
 
--- the variable of the call
-abbrev pub variableAt : Place → ℕ
-variableAt Idle = 0
-variableAt (LoadReadsWord x) = x
-variableAt (ValidateReadsWord x) = x
-variableAt (StoreSwapsWord x) = x
-variableAt (LoadReadsHeader x) = x
-variableAt (ValidateReadsHeader x) = x
-variableAt (StoreReadsHeader x) = x
-variableAt (StoreAnnounces x header i) = x
-variableAt (StoreSwapsHeader x header) = x
-variableAt (ReadsSegment c) = c .variable
-variableAt (ReadsAnnounced c read) = c .variable
-variableAt (SwapsSegment c read announced) = c .variable
-variableAt (ReadsSegmentAgain c) = c .variable
-variableAt (ReadsHeader c value) = c .variable
+-- what a step is for its call, by the new values, the steps taken before it and its answer. A load counts at its first step; a
+-- validate at its only step; a store at its successful swap of the word or header, or at the step that found the difference
+-- and answers no
+abbrev pub noteBy : ℕ → Call → (ℕ → ℕ) → ℕ → Answer → Note
+noteBy before (Load x) new steps answer = cond (eqb steps 0) loads quiet
+noteBy before (Validate x) new steps answer = checks
+noteBy before (Store x) new steps answer =
+    cond (isNo answer) (stores new false) (cond (eqb steps before) (stores new true) quiet)
 
--- what a step from a place is for its call, by its answer. A load counts at its first step; a validate at its only step;
--- a store at its successful swap of the word or header, or at the step that found the difference and answers no
-abbrev pub noteAt : Place → (ℕ → ℕ) → Answer → Note
-noteAt Idle new answer = quiet
-noteAt (LoadReadsWord x) new answer = loads
-noteAt (ValidateReadsWord x) new answer = checks
-noteAt (StoreSwapsWord x) new answer = stores new (not (isNo answer))
-noteAt (LoadReadsHeader x) new answer = loads
-noteAt (ValidateReadsHeader x) new answer = checks
-noteAt (StoreReadsHeader x) new answer = cond (isNo answer) (stores new false) quiet
-noteAt (StoreAnnounces x header i) new answer = quiet
-noteAt (StoreSwapsHeader x header) new answer = stores new (not (isNo answer))
-noteAt (ReadsSegment c) new answer = quiet
-noteAt (ReadsAnnounced c read) new answer = quiet
-noteAt (SwapsSegment c read announced) new answer = quiet
-noteAt (ReadsSegmentAgain c) new answer = quiet
-noteAt (ReadsHeader c value) new answer = quiet
+-- the values given with the call, place by place
+abbrev pub newValues : Own → ℕ → ℕ
+newValues own i = getD (own .values) i 0
 
--- the new values of a store, place by place
-abbrev pub newValues : Process → ℕ → ℕ
-newValues p i = getD (p .values) i 0
+-- own is what was kept of the event's process before it
+abbrev pub noteOf : Settings → Event → Own → Answer → Note
+noteOf s (begin me call values) own answer = begins
+noteOf s (step me) own answer = noteBy (beforeSwap (s .kind) (s .w)) (own .call) (newValues own) (own .steps) answer
 
-abbrev pub placeOf : State → ℕ → Place
-placeOf state me = processAt (state .board) me .place
-
-abbrev pub answerOf : Event → State → Answer
-answerOf event state = entry event state .0 .answer
-
-abbrev pub variableIn : Event → State → ℕ
-variableIn (begin me call values) state = variableOf call
-variableIn (step me) state = variableAt (placeOf state me)
-
-abbrev pub noteOf : Event → State → Note
-noteOf (begin me call values) state = begins
-noteOf (step me) state = noteAt (placeOf state me) (newValues (processAt (state .board) me)) (answerOf (step me) state)
+abbrev pub variableIn : Event → Own → ℕ
+variableIn (begin me call values) own = variableOf call
+variableIn (step me) own = variableOf (own .call)
 
 -- an event that the board refuses is not seen
-abbrev pub watch : Event → State → (ℕ → Seen) → ℕ → Seen
-watch event state seen =
-    cond (taken (answerOf event state))
-    (change seen (variableIn event state) (see (processOf event) (noteOf event state) (seen (variableIn event state))))
+abbrev pub watch : Settings → Event → Answer → Own → (ℕ → Seen) → ℕ → Seen
+watch s event answer own seen =
+    cond (taken answer)
+    (change seen (variableIn event own) (see (processOf event) (noteOf s event own answer) (seen (variableIn event own))))
     seen
 
 -- what was seen of each variable in the events, the last of which stands first
 unfoldable pub seenIn : State → List Event → ℕ → Seen
 seenIn start [] = λ x. unseen
-seenIn start (event ∷ events) = watch event (run start events) (seenIn start events)
+seenIn start (event ∷ events) =
+    watch (start .board .settings) event (answerOf event (run start events)) (ownIn start events (processOf event))
+    (seenIn start events)

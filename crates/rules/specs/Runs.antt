@@ -1,9 +1,10 @@
 -- Begins and steps in any order, over the entry rules: the state after them, and what each answers.
 use mathlib.Core.List.{List, [], _∷_}
-use Prim.Native.Nat.{ℕ}
+use Prim.Native.Nat.{ℕ, _+_}
 use Rattle.rules.specs.Answers.{numbersOf}
 use Rattle.rules.specs.Entry.{setUpRule, beginRule, stepRule, openCountRule}
-use Rattle.rules.specs.Types.{Answer, Answered, Board, Call, OpenCount, Settings}
+use Rattle.rules.specs.Text.{loadText, validateText, storeText, stepText}
+use Rattle.rules.specs.Types.{Answer, Answered, Board, Call, Load, Validate, Store, OpenCount, Settings}
 
 pub record State : Type 0 where
   pub board : Board
@@ -52,3 +53,22 @@ eventRow event state =
 unfoldable pub rows : State → List Event → List EventRow
 rows state [] = []
 rows state (event ∷ events) = eventRow event state ∷ rows (after event state) events
+
+-- .. with what stands before the answer: the record number, the process and the act
+pub record NumberedRow : Type 0 where
+  pub number : ℕ
+  pub process : ℕ
+  pub act : List ℕ
+  pub row : EventRow
+
+abbrev pub actText : Event → List ℕ
+actText (begin me (Load x) values) = loadText
+actText (begin me (Validate x) values) = validateText
+actText (begin me (Store x) values) = storeText
+actText (step me) = stepText
+
+unfoldable pub numberedRows : ℕ → State → List Event → List NumberedRow
+numberedRows number state [] = []
+numberedRows number state (event ∷ events) =
+    record { number = number; process = processOf event; act = actText event; row = eventRow event state }
+    ∷ numberedRows (number + 1) (after event state) events

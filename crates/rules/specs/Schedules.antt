@@ -2,14 +2,17 @@
 use mathlib.Core.Path.{_≡_}
 use mathlib.Core.List.{List, [], _∷_, _++_}
 use Prim.Native.Nat.{ℕ, zero, suc}
+use Prim.Native.String.{String}
 use lib.ListN.{replicate}
 use Rattle.word.specs.Packing.{packRule}
 use Rattle.word.specs.Word.{nextTag, previousTag}
 use Rattle.word.specs.declared.Packed.the-variants.{Word}
+use Rattle.rules.specs.Answers.{startTold}
 use Rattle.rules.specs.Entry.{setUpRule}
 use Rattle.rules.specs.Processes.{noValues}
-use Rattle.rules.specs.Runs.{State, Event, begin, step, fresh, EventRow, rows}
-use Rattle.rules.specs.Types.{SettingOutsideSizes, NoOpenSequence, ValueTooGreat, ProcessIdle, Answer, Begun, Busy, Value, Witness, Yes, No, AnswerRefused, Load, Validate, Store, Kind, One, Many, Open, Settings, Start, Ready, StartRefused}
+use Rattle.rules.specs.Runs.{State, Event, begin, step, fresh, EventRow, rows, NumberedRow, numberedRows}
+use Rattle.rules.specs.Text.{ascii}
+use Rattle.rules.specs.Types.{NoOpenSequence, ValueTooGreat, ProcessIdle, Answer, Begun, Busy, Value, Witness, Yes, No, AnswerRefused, Load, Validate, Store, Kind, One, Many, Open, Settings, Start}
 
 -- N, kind, T, b, W, as in a set-up record; lent are the most words that a board uses
 abbrev pub settings : ℕ → Kind → ℕ → ℕ → ℕ → Settings
@@ -44,15 +47,14 @@ begun open' = row Begun open' []
 abbrev pub busy : ℕ → EventRow
 busy open' = row Busy open' []
 
-abbrev pub times : ℕ → List Event → List Event
-times zero events = []
-times (suc n) events = events ++ times n events
+-- with its record number, process and act
+abbrev pub numbered : ℕ → ℕ → String → EventRow → NumberedRow
+numbered number process act r = record { number = number; process = process; act = ascii act; row = r }
 
--- the last row of a schedule
-abbrev pub last : List EventRow → EventRow
-last [] = row Busy 0 []
-last (r ∷ []) = r
-last (r ∷ q ∷ rest) = last (q ∷ rest)
+-- events, or rows, over and over
+abbrev pub times : {A : Type 0} → ℕ → List A → List A
+times zero list = []
+times (suc n) list = list ++ times n list
 
 -- P7 and P8's board
 abbrev pub small : State
@@ -78,17 +80,26 @@ p8Events =
 pub record Schedules : Type 0 where
   pub p1 : packRule 48 3 5 ≡ Word 196613
   pub p2 : (nextTag 4 15 ≡ 0) × (previousTag 4 0 ≡ 15)
-  pub p3 : rows (board 2 One 1 48 1) (ll 0 0 ∷ step 0 ∷ ll 1 0 ∷ step 1 ∷ sc 0 0 7 ∷ step 0 ∷ vl 1 0 ∷ step 1 ∷ [])
-      ≡ begun 0 ∷ row Value 1 (0 ∷ []) ∷ begun 0 ∷ row Value 1 (0 ∷ []) ∷ begun 1 ∷ row Yes 0 [] ∷ begun 1 ∷ row No 1 [] ∷ []
+  pub p3 : numberedRows 1 (board 2 One 1 48 1) (ll 0 0 ∷ step 0 ∷ ll 1 0 ∷ step 1 ∷ sc 0 0 7 ∷ step 0 ∷ vl 1 0 ∷ step 1 ∷ [])
+      ≡ numbered 1 0 "LL" (begun 0)
+      ∷ numbered 2 0 "step" (row Value 1 (0 ∷ []))
+      ∷ numbered 3 1 "LL" (begun 0)
+      ∷ numbered 4 1 "step" (row Value 1 (0 ∷ []))
+      ∷ numbered 5 0 "SC" (begun 1)
+      ∷ numbered 6 0 "step" (row Yes 0 [])
+      ∷ numbered 7 1 "VL" (begun 1)
+      ∷ numbered 8 1 "step" (row No 1 [])
+      ∷ []
   pub p4 :
       (rows (board 2 One 1 48 1) (ll 0 0 ∷ step 0 ∷ sc 0 0 65535 ∷ []) ≡ begun 0 ∷ row Value 1 (0 ∷ []) ∷ begun 1 ∷ [])
       × (rows (board 2 One 1 48 1) (ll 0 0 ∷ step 0 ∷ sc 0 0 65536 ∷ [])
       ≡ begun 0 ∷ row Value 1 (0 ∷ []) ∷ row (AnswerRefused ValueTooGreat) 1 (8 ∷ []) ∷ [])
   pub p5 : rows (board 2 One 1 48 1) (vl 0 0 ∷ step 0 ∷ [])
       ≡ row (AnswerRefused NoOpenSequence) 0 (7 ∷ []) ∷ row (AnswerRefused ProcessIdle) 0 (9 ∷ []) ∷ []
+  -- refused 1; 0 says that a set-up stands
   pub p6 :
-      (startOf 2 One 1 3 1 ≡ StartRefused SettingOutsideSizes) × (startOf 2 One 1 49 1 ≡ StartRefused SettingOutsideSizes)
-      × (startOf 2 One 1 4 1 ≡ Ready) × (startOf 2 One 1 48 1 ≡ Ready)
+      (startTold (startOf 2 One 1 3 1) ≡ (1, [])) × (startTold (startOf 2 One 1 49 1) ≡ (1, []))
+      × (startTold (startOf 2 One 1 4 1) ≡ (0, [])) × (startTold (startOf 2 One 1 48 1) ≡ (0, []))
   -- process 1 answers 5 at its sixth step
   pub p7 : rows small (p7Events ++ (step 1 ∷ []))
       ≡ begun 0 ∷ busy 1 ∷ busy 1 ∷ row Value 1 (0 ∷ []) ∷ begun 1 ∷ busy 1 ∷ busy 1 ∷ busy 1
@@ -103,6 +114,8 @@ pub record Schedules : Type 0 where
   pub p9 : rows (board 2 One 1 48 1) (ll 0 0 ∷ step 0 ∷ ll 1 0 ∷ step 1 ∷ sc 0 0 0 ∷ step 0 ∷ sc 1 0 0 ∷ step 1 ∷ [])
       ≡ begun 0 ∷ row Value 1 (0 ∷ []) ∷ begun 0 ∷ row Value 1 (0 ∷ []) ∷ begun 1 ∷ row Yes 0 [] ∷ begun 1 ∷ row No 0 [] ∷ []
   -- process 1 loads 0; process 0 does 16 rounds of load and store of 0; process 1's store answers yes
-  pub p10 : last (rows (board 2 One 1 4 1)
-      (ll 1 0 ∷ step 1 ∷ times 16 (ll 0 0 ∷ step 0 ∷ sc 0 0 0 ∷ step 0 ∷ []) ++ (sc 1 0 0 ∷ step 1 ∷ [])))
-      ≡ row Yes 0 []
+  pub p10 : rows (board 2 One 1 4 1)
+      (ll 1 0 ∷ step 1 ∷ times 16 (ll 0 0 ∷ step 0 ∷ sc 0 0 0 ∷ step 0 ∷ []) ++ (sc 1 0 0 ∷ step 1 ∷ []))
+      ≡ begun 0 ∷ row Value 1 (0 ∷ [])
+      ∷ times 16 (begun 0 ∷ row Value 1 (0 ∷ []) ∷ begun 1 ∷ row Yes 0 [] ∷ [])
+      ++ (begun 1 ∷ row Yes 0 [] ∷ [])

@@ -11,7 +11,7 @@ use lib.Seq.{getD-set-other}
 use Rattle.word.specs.Word.{tagOf, previousTag}
 use Rattle.rules.specs.Figure4.{Step}
 use Rattle.rules.specs.Figure6.{saving, copyOn, copyCutShort}
-use Rattle.rules.specs.Onlooker.{taken}
+use Rattle.rules.specs.OwnSteps.{taken}
 use Rattle.rules.specs.Processes.{isIdle, isOpen, withClosed, keptOf, opening, closing, ends}
 use Rattle.rules.specs.Sizes.{bits, wordAt, headerAt, segmentAt, announceAt, wordOf, headerOf, segmentOf}
 use Rattle.rules.specs.Steps.{stepFrom}

@@ -2,9 +2,26 @@
 use mathlib.Core.Path.{_≡_}
 use mathlib.Core.Bool.{Bool, true, false, cond, not, _&&_}
 use Prim.Native.Nat.{ℕ}
-pub use Rattle.rules.specs.Onlooker.{variableAt}
+use Rattle.rules.specs.OwnSteps.{isBusy}
 use Rattle.rules.specs.Sizes.{wordAt, headerAt, segmentAt, announceAt}
-use Rattle.rules.specs.Types.{Answer, Begun, Busy, Value, Witness, Yes, No, AnswerRefused, Place, Idle, LoadReadsWord, ValidateReadsWord, StoreSwapsWord, LoadReadsHeader, ValidateReadsHeader, StoreReadsHeader, StoreAnnounces, StoreSwapsHeader, ReadsSegment, ReadsAnnounced, SwapsSegment, ReadsSegmentAgain, ReadsHeader, Settings}
+use Rattle.rules.specs.Types.{Answer, Place, Idle, LoadReadsWord, ValidateReadsWord, StoreSwapsWord, LoadReadsHeader, ValidateReadsHeader, StoreReadsHeader, StoreAnnounces, StoreSwapsHeader, ReadsSegment, ReadsAnnounced, SwapsSegment, ReadsSegmentAgain, ReadsHeader, Settings}
+
+-- the variable of the call
+abbrev pub variableAt : Place → ℕ
+variableAt Idle = 0
+variableAt (LoadReadsWord x) = x
+variableAt (ValidateReadsWord x) = x
+variableAt (StoreSwapsWord x) = x
+variableAt (LoadReadsHeader x) = x
+variableAt (ValidateReadsHeader x) = x
+variableAt (StoreReadsHeader x) = x
+variableAt (StoreAnnounces x header i) = x
+variableAt (StoreSwapsHeader x header) = x
+variableAt (ReadsSegment c) = c .variable
+variableAt (ReadsAnnounced c read) = c .variable
+variableAt (SwapsSegment c read announced) = c .variable
+variableAt (ReadsSegmentAgain c) = c .variable
+variableAt (ReadsHeader c value) = c .variable
 
 -- a is the address that a step from the place may write; the other places write nothing
 abbrev pub Writes : Settings → ℕ → Place → ℕ → Type 0
@@ -56,15 +73,6 @@ isStores (ReadsAnnounced c read) = not (c .gathers)
 isStores (SwapsSegment c read announced) = not (c .gathers)
 isStores (ReadsSegmentAgain c) = not (c .gathers)
 isStores (ReadsHeader c value) = not (c .gathers)
-
-abbrev pub isBusy : Answer → Bool
-isBusy Begun = false
-isBusy Busy = true
-isBusy Value = false
-isBusy (Witness q) = false
-isBusy Yes = false
-isBusy No = false
-isBusy (AnswerRefused r) = false
 
 -- a load opens (or reopens) its sequence at its first step, witness or not; a store closes it at its answer, yes or no
 abbrev pub openAfter : Place → Answer → Bool → Bool

@@ -1,12 +1,12 @@
 -- Where a step may write: at the word of its variable, its header or one of its segments, or in the own announce row. So
 -- never past the words used, nor at another variable's words or another process's row. Assumes nothing.
-use mathlib.Core.Path.{_≡_, sym, _∙_, subst}
+use mathlib.Core.Path.{_≡_, sym, subst}
 use mathlib.Core.Bool.{true}
 use Prim.Native.Nat.{ℕ, _<_}
 use Rattle.rules.specs.Bounds.{Sized}
 use Rattle.rules.specs.GoodForm.{placeFits}
-use Rattle.rules.specs.Sizes.{wordAt, headerAt, segmentAt, announceAt, wordsUsed, usedBy}
-use Rattle.rules.specs.Types.{Kind, One, Many, Place, Idle, LoadReadsWord, ValidateReadsWord, StoreSwapsWord, LoadReadsHeader, ValidateReadsHeader, StoreReadsHeader, StoreAnnounces, StoreSwapsHeader, ReadsSegment, ReadsAnnounced, SwapsSegment, ReadsSegmentAgain, ReadsHeader, Settings}
+use Rattle.rules.specs.Sizes.{wordAt, headerAt, segmentAt, announceAt, wordsUsed}
+use Rattle.rules.specs.Types.{One, Many, Place, Idle, LoadReadsWord, ValidateReadsWord, StoreSwapsWord, LoadReadsHeader, ValidateReadsHeader, StoreReadsHeader, StoreAnnounces, StoreSwapsHeader, ReadsSegment, ReadsAnnounced, SwapsSegment, ReadsSegmentAgain, ReadsHeader, Settings}
 use Rattle.rules.proofs.Sizes.Addresses as addresses
 use Rattle.rules.proofs.Changes.Places.{variableAt, Writes}
 use Rattle.rules.proofs.GoodForm.Held as held
@@ -17,23 +17,6 @@ pub data Where (s : Settings) (me : ℕ) (l : Place) (a : ℕ) : Type 0 where
   row : (i : ℕ) → s .kind ≡ Many → i < s .w → a ≡ announceAt s me i → Where s me l a
   header : s .kind ≡ Many → variableAt l < s .t → a ≡ headerAt s (variableAt l) → Where s me l a
   segment : (i : ℕ) → s .kind ≡ Many → variableAt l < s .t → i < s .w → a ≡ segmentAt s (variableAt l) i → Where s me l a
-
--- a step writes at most one word
-pub one-word : (s : Settings) (me : ℕ) (l : Place) (a b : ℕ) → Writes s me l a → Writes s me l b → a ≡ b
-one-word s me Idle a b v w = absurd v
-one-word s me (LoadReadsWord x) a b v w = absurd v
-one-word s me (ValidateReadsWord x) a b v w = absurd v
-one-word s me (StoreSwapsWord x) a b v w = v ∙ sym w
-one-word s me (LoadReadsHeader x) a b v w = absurd v
-one-word s me (ValidateReadsHeader x) a b v w = absurd v
-one-word s me (StoreReadsHeader x) a b v w = absurd v
-one-word s me (StoreAnnounces x h i) a b v w = v ∙ sym w
-one-word s me (StoreSwapsHeader x h) a b v w = v ∙ sym w
-one-word s me (ReadsSegment c) a b v w = absurd v
-one-word s me (ReadsAnnounced c read) a b v w = absurd v
-one-word s me (SwapsSegment c read announced) a b v w = v ∙ sym w
-one-word s me (ReadsSegmentAgain c) a b v w = absurd v
-one-word s me (ReadsHeader c value) a b v w = absurd v
 
 module _ (s : Settings) (opened me : ℕ) where
   pub place-writes : (l : Place) (a : ℕ) → placeFits s opened l ≡ true → Writes s me l a → Where s me l a
@@ -63,18 +46,12 @@ module _ (s : Settings) (opened me : ℕ) where
   place-writes (ReadsHeader c value) a ok w = absurd w
 
 module _ (s : Settings) (z : Sized s) (me : ℕ) (mine : me < s .n) (l : Place) where
-  used-one : s .kind ≡ One → {a : ℕ} → a < s .t → a < wordsUsed s
-  used-one e {a} h = subst (λ (k : Kind). a < usedBy k s) (sym e) h
-
-  used-many : s .kind ≡ Many → {a : ℕ} → a < usedBy Many s → a < wordsUsed s
-  used-many e {a} h = subst (λ (k : Kind). a < usedBy k s) (sym e) h
-
   -- no word past those used
   pub writes-used : (a : ℕ) → Where s me l a → a < wordsUsed s
-  writes-used a (word one h e) = subst (λ (k : ℕ). k < wordsUsed s) (sym e) (used-one one h)
-  writes-used a (row i many h e) = subst (λ (k : ℕ). k < wordsUsed s) (sym e) (used-many many (addresses.announce-in s z mine h))
-  writes-used a (header many h e) = subst (λ (k : ℕ). k < wordsUsed s) (sym e) (used-many many (addresses.header-in s z h))
-  writes-used a (segment i many h hi e) = subst (λ (k : ℕ). k < wordsUsed s) (sym e) (used-many many (addresses.segment-in s z h hi))
+  writes-used a (word one h e) = subst (λ (k : ℕ). k < wordsUsed s) (sym e) (addresses.used-one s one h)
+  writes-used a (row i many h e) = subst (λ (k : ℕ). k < wordsUsed s) (sym e) (addresses.used-many s many (addresses.announce-in s z mine h))
+  writes-used a (header many h e) = subst (λ (k : ℕ). k < wordsUsed s) (sym e) (addresses.used-many s many (addresses.header-in s z h))
+  writes-used a (segment i many h hi e) = subst (λ (k : ℕ). k < wordsUsed s) (sym e) (addresses.used-many s many (addresses.segment-in s z h hi))
 
 module _ (s : Settings) (me : ℕ) (l : Place) where
   -- of another variable not its word, its header nor a segment

@@ -10,18 +10,20 @@ use lib.Seq.{getD-set-same, getD-set-other}
 use borrow.Author.Tests.{eq-eqb, not-false}
 use Rattle.word.specs.Word.{tagLimit}
 use Rattle.rules.specs.Bounds.{Sized}
-use Rattle.rules.specs.Demand3.{Another, inSequence}
+use Rattle.rules.specs.Demand3.{Another}
 use Rattle.rules.specs.Entry.{stepped}
 use Rattle.rules.specs.Figure2.{change, content, truth}
 use Rattle.rules.specs.Figure4.{Step}
 use Rattle.rules.specs.GoodForm.{processFits}
-use Rattle.rules.specs.Onlooker.{Seen, Note, begins, see, taken, variableAt, noteAt, newValues}
+use Rattle.rules.specs.Onlooker.{Seen, Note, begins, see}
+use Rattle.rules.specs.OwnSteps.{taken}
 use Rattle.rules.specs.Processes.{isIdle, isOpen, nobody}
 use Rattle.rules.specs.Refusals.{variableOf, lacksSequence}
 use Rattle.rules.specs.Sizes.{bits}
 use Rattle.rules.specs.Steps.{firstPlace, beginning, stepFrom, processStep}
 use Rattle.rules.specs.Types.{Answer, Begun, Busy, Value, Witness, Yes, No, AnswerRefused, Answered, Board, Call, Load, Validate, Store, Kind, One, Many, Process, Settings}
 use Rattle.rules.proofs.Changes.Frame.{framed}
+use Rattle.rules.proofs.Changes.Places.{variableAt}
 use Rattle.rules.proofs.GoodForm.Held as form
 use Rattle.rules.proofs.Refusals.Checked.{Accepted, Beginning}
 use Rattle.rules.proofs.GoodForm.Keeps.{process-fits}
@@ -35,6 +37,7 @@ use Rattle.rules.proofs.Demand3.Link.Memory.{MemK, WroteK, put-kind}
 use Rattle.rules.proofs.Demand3.Link.One.{link-one}
 use Rattle.rules.proofs.Demand3.Link.Stands.{at-place, one-load, one-validate, one-store, at-load, at-validate, at-store, StandsK, Says, says-busy, says-values, says-witness, says-yes, says-no, Linked}
 use Rattle.rules.proofs.Demand3.Machine.{Told, Place as Stand, idle, Sequence, Var, none, Core, Out, anew, rules}
+use Rattle.rules.proofs.Calls.Told.{noteAt, sequenceAt, valuesAt}
 use Rattle.rules.proofs.Demand3.Runs as runs
 use Rattle.rules.proofs.Demand3.Means.{ProcessMeans, BoardMeans, alike}
 
@@ -148,7 +151,7 @@ module _ (s : Settings) (z : Sized s) (st : State) (I : Inv (s .kind) (s .w) st)
   result = stepFrom (q .place) s q me words
 
   abbrev sees-step : Answer → ℕ → Seen
-  sees-step a = sees (variableAt (q .place)) (noteAt (q .place) (newValues q) a) a
+  sees-step a = sees (variableAt (q .place)) (noteAt (q .place) (valuesAt q) a) a
 
   pub record StepFollows (a : Answered × List ℕ) : Type 0 where
     pub next : State
@@ -156,10 +159,10 @@ module _ (s : Settings) (z : Sized s) (st : State) (I : Inv (s .kind) (s .w) st)
     pub means : BoardMeans s next (a .0 .board .processes) (a .1) (sees-step (a .0 .answer))
     pub right : RightAnswer (width (s .kind) (s .w)) me (sees-step (a .0 .answer) (variableAt (q .place))) (a .0 .answer) (at-place (a .0 .values))
     pub counts : taken (a .0 .answer) ≡ true → Counts me (sees-step (a .0 .answer) (variableAt (q .place)))
-        (noteAt (q .place) (newValues q) (a .0 .answer))
+        (noteAt (q .place) (valuesAt q) (a .0 .answer))
 
   pub step-follows : Accepted board me words → isIdle (q .place) ≡ false →
-      (taken (processStep s q me words .0 .answer) ≡ true → inSequence (q .place) ≡ true →
+      (taken (processStep s q me words .0 .answer) ≡ true → sequenceAt (q .place) ≡ true →
       length (seen (variableAt (q .place)) .since me) + 2 ≤ tagLimit (bits s)) →
       StepFollows (stepped board me (processStep s q me words))
   unfolding processStep

@@ -8,8 +8,9 @@ use native.Mathlib.Omega.{arith}
 use lib.ListN.{length}
 use borrow.Author.Tests.{eqb-true}
 use Rattle.word.specs.Word.{bitsFit}
-use Rattle.rules.specs.Demand3.{Turn, before, answer, answered, seen as seen-of, since, Few, InWindow, AnswersRight, Demand3, Demand3InWindow}
-use Rattle.rules.specs.Onlooker.{Note, taken, noteOf, seenIn}
+use Rattle.rules.specs.Demand3.{Turn, answer, answered, own, seen as seen-of, since, Few, InWindow, AnswersRight, Demand3, Demand3InWindow}
+use Rattle.rules.specs.Onlooker.{Note, noteOf}
+use Rattle.rules.specs.OwnSteps.{taken}
 use Rattle.rules.specs.Refusals.{sizesCheck}
 use Rattle.rules.specs.Runs.{step}
 use Rattle.rules.specs.Sizes.{bits, between, segmentsFit, settingsFit}
@@ -21,7 +22,7 @@ use Rattle.rules.proofs.Demand3.Follow.{RightAnswer}
 use Rattle.rules.proofs.Demand3.Invariant.Kinds.{Counts, width}
 use Rattle.rules.proofs.Demand3.Runs.{ready-fine}
 use Rattle.rules.proofs.Demand3.Steps.{bounded}
-use Rattle.rules.proofs.Demand3.Along.{right-along}
+use Rattle.rules.proofs.Demand3.Along.{right-along, counts-along}
 use Rattle.rules.proofs.Demand3.Window.{window-of-few}
 
 -- W is 1 for kind `one`
@@ -35,19 +36,18 @@ width-is s e = by (s .kind) (s .w) (and-right (between 1 16 (s .n) && between 1 
 
 -- the answer of a turn is right
 right-in-window : (t : Turn) → InWindow t → RightAnswer (t .settings .w) (t .me) (seen-of t) (answer t) (answered t)
-unfolding seenIn
 right-in-window t A =
     let s : Settings = t .settings in
     let f : sizesCheck s (length (t .lent)) ≡ Fine = ready-fine s (t .lent) (t .ready) in
     rw (width-is s (stands s (t .lent) f .settings)) at (right-along s (sized s (stands s (t .lent) f .settings)) (t .lent) f
-    (t .events) (t .me) A .right)
+    (t .events) (t .me) A)
 
-counts-in-window : (t : Turn) → InWindow t → taken (answer t) ≡ true → Counts (t .me) (seen-of t) (noteOf (step (t .me)) (before t))
-unfolding seenIn
+counts-in-window : (t : Turn) → InWindow t → taken (answer t) ≡ true
+    → Counts (t .me) (seen-of t) (noteOf (t .settings) (step (t .me)) (own t) (answer t))
 counts-in-window t A =
     let s : Settings = t .settings in
     let f : sizesCheck s (length (t .lent)) ≡ Fine = ready-fine s (t .lent) (t .ready) in
-    right-along s (sized s (stands s (t .lent) f .settings)) (t .lent) f (t .events) (t .me) A .counts
+    counts-along s (sized s (stands s (t .lent) f .settings)) (t .lent) f (t .events) (t .me) A
 
 module _ (t : Turn) (A : InWindow t) where
   right-when : (a : Answer) → answer t ≡ a → RightAnswer (t .settings .w) (t .me) (seen-of t) a (answered t)

@@ -5,12 +5,13 @@ use mathlib.Core.Bool.{true, false}
 use mathlib.Core.List.{List}
 use Prim.Native.Nat.{ℕ, _<_}
 use lib.ListN.{length, getD}
-use Rattle.rules.specs.Demand3.{inSequence}
-use Rattle.rules.specs.Onlooker.{Seen, variableAt}
+use Rattle.rules.specs.Onlooker.{Seen}
 use Rattle.rules.specs.Processes.{isIdle, nobody}
 use Rattle.rules.specs.Sizes.{bits}
 use Rattle.rules.specs.Types.{Kind, One, Many, Place, Process, Settings}
+use Rattle.rules.proofs.Changes.Places.{variableAt}
 use Rattle.rules.proofs.Tests.{never}
+use Rattle.rules.proofs.Calls.Told.{sequenceAt}
 use Rattle.rules.proofs.Demand3.Invariant.Begin.{past}
 use Rattle.rules.proofs.Demand3.Invariant.Whole.{Proc, State}
 use Rattle.rules.proofs.Demand3.Link.Keeping.{Held}
@@ -33,7 +34,7 @@ pub record BoardMeans (s : Settings) (st : State) (processes : List Process) (wo
 -- what both tell of a place
 pub record Alike (x : ℕ) (place : Place) (stand : Stand) : Type 0 where
   pub variable : isIdle place ≡ false → variableAt place ≡ x
-  pub sequence : past stand ≡ inSequence place
+  pub sequence : past stand ≡ sequenceAt place
   pub idle' : isIdle place ≡ true → stand ≡ idle
 
 alike-one : {x : ℕ} {new : List ℕ} {place : Place} {stand : Stand} → StandsOne x new place stand → Alike x place stand

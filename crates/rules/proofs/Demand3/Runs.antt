@@ -9,7 +9,6 @@ use lib.ListN.{length, getD, replicate}
 use lib.Seq.{getD-set-other}
 use borrow.Author.Tests.{leb-true, leb-false}
 use Rattle.rules.specs.Entry.{freshProcess, freshBoard, freshWords, setUpBy, setUpRule, refusing, beginBy, beginRule, stepped, stepBy, stepRule}
-use Rattle.rules.specs.Onlooker.{placeOf}
 use Rattle.rules.specs.Processes.{isIdle, nobody, processAt, putProcess}
 use Rattle.rules.specs.Refusals.{sizesCheck, beginCheck, stepCheck}
 use Rattle.rules.specs.Runs.{State, Event, begin, step, fresh, run}
@@ -19,6 +18,7 @@ use Rattle.rules.proofs.Tests.{never}
 use Rattle.rules.proofs.Refusals.Checked.{stands, Accepted, Beginning, step-accepted, step-fine, begin-accepted}
 use Rattle.rules.proofs.GoodForm.Fresh.{set-up-accepted}
 use Rattle.rules.proofs.GoodForm.Runs.{always-in-form}
+use Rattle.rules.proofs.Calls.Told.{placeOf}
 
 -- what holds of a step that is taken, and of every refusal, holds of every step
 pub step-cases : (P : Answered × List ℕ → Type 0) (board : Board) (me : ℕ) (words : List ℕ) →
@@ -60,8 +60,12 @@ pub record BoardOf (s : Settings) (board : Board) : Type 0 where
   pub settings : board .settings ≡ s
   pub sixteen : length (board .processes) ≡ 16
 
-abbrev stateOf : SetUp × List ℕ → State
-stateOf a = record { board = a .0 .board; words = a .1 }
+-- a state of these settings, in its parts; and that a board of them has these
+abbrev pub stateOf : Settings → List Process → List ℕ → State
+stateOf s processes words = record { board = record { settings = s; processes = processes }; words = words }
+
+pub as-parts : (s : Settings) (state : State) → BoardOf s (state .board) → state ≡ stateOf s (state .board .processes) (state .words)
+as-parts s state h = λ i. record { board = record { settings = h .settings i; processes = state .board .processes }; words = state .words }
 
 pub fresh-idle : (n i : ℕ) → getD (replicate n freshProcess) i nobody .place ≡ Idle
 fresh-idle zero i = refl
@@ -70,7 +74,7 @@ fresh-idle (suc n) (suc i) = fresh-idle n i
 
 module _ (s : Settings) (lent : List ℕ) (ready : sizesCheck s (length lent) ≡ Fine) where
   pub fresh-is : fresh s lent ≡ record { board = freshBoard s; words = freshWords s lent }
-  fresh-is = ap stateOf (set-up-accepted s lent ready)
+  fresh-is = ap (λ (a : SetUp × List ℕ). record { board = a .0 .board; words = a .1 }) (set-up-accepted s lent ready)
 
   pub run-shaped : (events : List Event) → BoardOf s (run (fresh s lent) events .board)
   run-shaped events =

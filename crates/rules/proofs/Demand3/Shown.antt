@@ -10,13 +10,13 @@ use Rattle.rules.specs.Demand3Runs.{turnOf, Meets, one4, many4, FewButOn
 use Rattle.rules.specs.Entry as entry
 use Rattle.rules.specs.Figure2.{change, Returned, nothing, content, truth}
 use Rattle.rules.specs.Onlooker.{seenIn}
-use Rattle.rules.specs.OwnSteps.{ownSteps}
+use Rattle.rules.specs.OwnSteps.{ownIn}
 use Rattle.rules.specs.Runs.{Event, step, run}
 use Rattle.rules.specs.Sizes.{bits}
 use Rattle.rules.specs.Steps as steps
 use Rattle.rules.proofs.Cases.Computing.{schedule}
 use Rattle.rules.specs.Schedules.{p7Events, p8Events}
-use Rattle.rules.specs.Types.{Answer, Value, Witness, Yes, Load, Store, Settings, Ready}
+use Rattle.rules.specs.Types.{Answer, Value, Witness, Yes, Call, Load, Store, Settings, Ready}
 
 -- with one variable the premise is a bound on the first
 one-variable : (t : Turn) → t .settings .t ≡ 1 → (n : ℕ) → seenIn (start t) (step (t .me) ∷ t .events) 0 .total ≤ n → AtMost n t
@@ -28,6 +28,11 @@ record Computed (t : Turn) (stores : ℕ) (a : Answer) (first : ℕ) : Type 0 wh
   total : seenIn (start t) (step (t .me) ∷ t .events) 0 .total ≡ stores
   answers : answer t ≡ a
   value : answered t 0 ≡ first
+
+-- what the process has taken of its call, this step counted too
+record Took (t : Turn) (call : Call) (steps : ℕ) : Type 0 where
+  its : ownIn (start t) (step (t .me) ∷ t .events) (t .me) .call ≡ call
+  took : ownIn (start t) (step (t .me) ∷ t .events) (t .me) .steps ≡ steps
 
 -- what Figure 2 returned, in its first place
 abbrev first : Returned → ℕ
@@ -44,15 +49,13 @@ record AllComputed : Type 0 where
   fourteenth : Computed (turnOf one4 ready-one runs.fourteenth 0) 14 Yes 0
   -- 15 stores: the load answers 9, and Figure 2's variable holds 5
   one-more : Computed (turnOf many4 ready-many runs.oneMore 1) 15 Value 9
-  p7-took : ownSteps (start (turnOf many4 ready-many p7Events 1)) (step 1 ∷ turnOf many4 ready-many p7Events 1 .events) 1
-      ≡ record { call = Load 0; steps = 6 }
+  p7-took : Took (turnOf many4 ready-many p7Events 1) (Load 0) 6
   helped : answer (turnOf many4 ready-many runs.helped 0) ≡ Yes
-  helped-took : ownSteps (start (turnOf many4 ready-many runs.helped 0)) (step 0 ∷ turnOf many4 ready-many runs.helped 0 .events) 0
-      ≡ record { call = Store 0; steps = 8 }
+  helped-took : Took (turnOf many4 ready-many runs.helped 0) (Store 0) 8
   one-more-due : first (due (turnOf many4 ready-many runs.oneMore 1)) ≡ 5
 
 computed : AllComputed
-unfolding schedule runs.backwards run ownSteps seenIn change
+unfolding schedule runs.backwards run ownIn seenIn change
 computed =
     record {
       ready-one = refl;
@@ -62,9 +65,9 @@ computed =
       overtaken = record { total = refl; answers = refl; value = refl };
       fourteenth = record { total = refl; answers = refl; value = refl };
       one-more = record { total = refl; answers = refl; value = refl };
-      p7-took = refl;
+      p7-took = record { its = refl; took = refl };
       helped = refl;
-      helped-took = refl;
+      helped-took = record { its = refl; took = refl };
       one-more-due = refl;
     }
 
@@ -86,8 +89,8 @@ shown =
       p8-meets = meets many4 refl (computed .ready-many) p8Events 1 1 (Witness 0) 0 (computed .p8) (omega arith);
       overtaken-meets = meets many4 refl (computed .ready-many) runs.overtaken 1 14 (Witness 0) 0 (computed .overtaken) (omega arith);
       fourteenth-meets = meets one4 refl (computed .ready-one) runs.fourteenth 0 14 Yes 0 (computed .fourteenth) (omega arith);
-      slowest-load = record { ready = computed .ready-many; answers = computed .p7 .answers; took = computed .p7-took };
-      slowest-store = record { ready = computed .ready-many; answers = computed .helped; took = computed .helped-took };
+      slowest-load = record { ready = computed .ready-many; answers = computed .p7 .answers; its = computed .p7-took .its; took = computed .p7-took .took };
+      slowest-store = record { ready = computed .ready-many; answers = computed .helped; its = computed .helped-took .its; took = computed .helped-took .took };
       tight = λ R.
           let t : Turn = turnOf many4 (computed .ready-many) runs.oneMore 1 in
           let few : FewButOne t = one-variable t refl 15 (omega (arith, computed .one-more .total)) in

@@ -1,38 +1,35 @@
 -- How many steps a call takes: always, whatever the others do. Each step that the board takes brings its process nearer
 -- the end of its call. Assumes nothing.
-use mathlib.Core.Path.{_≡_, refl, sym, subst}
-use mathlib.Core.Bool.{Bool, true, false, cond}
-use mathlib.Core.List.{List, [], _∷_}
+use mathlib.Core.Path.{_≡_, refl, sym, ap, _∙_, subst}
+use mathlib.Core.Bool.{Bool, true, false, cond, not}
+use mathlib.Core.List.{List}
 use Prim.Native.Nat.{ℕ, suc, _+_, _-_, _*_, _≤_, _<_}
 use native.Mathlib.Omega.{arith}
 use lib.Dec.{eqb, ltb}
 use lib.ListN.{length}
-use lib.Seq.{getD-set-same, getD-set-other}
 use borrow.Author.Tests.{ltb-true}
 use Rattle.word.specs.Word.{tagOf, previousTag}
+use Rattle.rules.specs.Demand3.{Turn, before, own, StepsBounded}
+use Rattle.rules.specs.Entry.{stepBy, stepRule}
 use Rattle.rules.specs.Figure4.{Step}
 use Rattle.rules.specs.Figure6.{saving, copyOn, copyCutShort}
 use Rattle.rules.specs.GoodForm.{placeFits}
-use Rattle.rules.specs.Onlooker.{taken, placeOf}
-use Rattle.rules.specs.Figure2.{change}
-use Rattle.rules.specs.OwnSteps.{Own, counting, mostStepsBy, mostSteps, ownSteps}
-use Rattle.rules.specs.Processes.{nobody, processAt, putProcess, isIdle, keptOf}
-use Rattle.rules.specs.Sizes.{bits, wordOf, headerOf, segmentOf}
-use Rattle.rules.specs.Entry.{beginRule, stepBy, stepRule}
+use Rattle.rules.specs.OwnSteps.{Own, taken, mostStepsBy, mostSteps, ownIn}
+use Rattle.rules.specs.Processes.{processAt, isIdle, keptOf}
 use Rattle.rules.specs.Refusals.{sizesCheck, stepCheck}
-use Rattle.rules.specs.Runs.{State, Event, begin, step, processOf, fresh, run}
-use Rattle.rules.specs.Demand3.{Turn, before, place, own, StepsBounded}
-use Rattle.rules.specs.Steps.{firstPlace, beginning, stepFrom, processStep}
-use Rattle.rules.specs.Types.{Check, Fine, Copy, Answered, Board, Call, Load, Validate, Store, Kind, One, Many, Moved, Place, Idle, LoadReadsWord, ValidateReadsWord, StoreSwapsWord, LoadReadsHeader, ValidateReadsHeader, StoreReadsHeader, StoreAnnounces, StoreSwapsHeader, ReadsSegment, ReadsAnnounced, SwapsSegment, ReadsSegmentAgain, ReadsHeader, Process, Settings}
+use Rattle.rules.specs.Runs.{Event, fresh, run}
+use Rattle.rules.specs.Sizes.{bits, wordOf, headerOf, segmentOf}
+use Rattle.rules.specs.Steps.{firstPlace, stepFrom, processStep}
+use Rattle.rules.specs.Types.{Check, Fine, Copy, Board, Call, Load, Validate, Store, Kind, One, Many, Moved, Place, Idle, LoadReadsWord, ValidateReadsWord, StoreSwapsWord, LoadReadsHeader, ValidateReadsHeader, StoreReadsHeader, StoreAnnounces, StoreSwapsHeader, ReadsSegment, ReadsAnnounced, SwapsSegment, ReadsSegmentAgain, ReadsHeader, Process, Settings}
 use Rattle.rules.proofs.Tests.{never}
-use Rattle.rules.proofs.GoodForm.Held.{segment-in, clauses}
-use Rattle.rules.proofs.Sizes.Sized.{sized}
-use Rattle.rules.proofs.Refusals.Checked.{Accepted, step-accepted}
+use Rattle.rules.proofs.GoodForm.Held.{segment-in}
+use Rattle.rules.proofs.Refusals.Checked.{step-accepted}
 use Rattle.rules.proofs.Changes.Frame.{framed}
 use Rattle.rules.proofs.Branches.{branch, both-arms}
-use Rattle.rules.proofs.GoodForm.Keeps.{process-fits}
-use Rattle.rules.proofs.Demand3.Change.{change-all}
-use Rattle.rules.proofs.Demand3.Runs.{begin-cases, step-cases, ready-fine, BoardOf, fresh-idle, fresh-is, run-shaped, accepts}
+use Rattle.rules.proofs.Demand3.Called.{called, told}
+use Rattle.rules.proofs.Demand3.Owns.{each-own}
+use Rattle.rules.proofs.Calls.Told.{placeOf}
+use Rattle.rules.proofs.Demand3.Runs.{ready-fine, accepts}
 
 -- the steps that are left from a place, at most; w segments
 abbrev left : ℕ → Place → ℕ
@@ -106,8 +103,8 @@ module _ (s : Settings) (p : Process) (me : ℕ) (words : List ℕ) (pos : 1 ≤
       (on c value (saving c value p)) (short c value (headerOf s (c .variable) words))
 
 -- the steps taken and the steps left come to no more than the most
-record Timed (s : Settings) (own : Own) (place : Place) : Type 0 where
-  sum : own .steps + left (s .w) place ≤ mostSteps s (own .call)
+abbrev Timed : Settings → Own → Process → Type 0
+Timed s own p = own .steps + left (s .w) (p .place) ≤ mostSteps s (own .call)
 
 first-timed : (k : Kind) (w : ℕ) (call : Call) → left w (firstPlace k call) ≤ mostStepsBy k w call
 first-timed One w (Load x) = omega arith
@@ -117,60 +114,13 @@ first-timed Many w (Load x) = omega arith
 first-timed Many w (Validate x) = omega arith
 first-timed Many w (Store x) = omega arith
 
--- one process of the board is changed
-put-timed : (s : Settings) (own : ℕ → Own) (board : Board) (me : ℕ) (p : Process) (mine : Own) → me < length (board .processes) →
-    Timed s mine (p .place) → ((q : ℕ) → Timed s (own q) (processAt board q .place)) →
-    (q : ℕ) → Timed s (change own me mine q) (processAt (putProcess board me p) q .place)
-put-timed s own board me p mine l h o =
-    change-all (λ q c. Timed s c (processAt (putProcess board me p) q .place)) own me mine
-    (rw (getD-set-same (board .processes) me p nobody l) h)
-    (λ q n. rw (getD-set-other (board .processes) me q p nobody n) (o q))
-
-room : (board : Board) (me : ℕ) (words : List ℕ) {s : Settings} → BoardOf s board → Accepted board me words → me < length (board .processes)
-room board me words h a = omega (arith, h .sixteen, sized (board .settings) (a .sizes .settings) .n-most, a .mine)
-
-module _ (s : Settings) (own : ℕ → Own) where
-  abbrev AllTimed : Board → (ℕ → Own) → Type 0
-  AllTimed board c = (q : ℕ) → Timed s (c q) (processAt board q .place)
-
-  abbrev After : Event → Answered → Type 0
-  After event a =
-      AllTimed (a .board) (cond (taken (a .answer)) (change own (processOf event) (counting event (own (processOf event)))) own)
-
-  begin-timed : (board : Board) (me : ℕ) (call : Call) (values words : List ℕ) → BoardOf s board → AllTimed board own →
-      After (begin me call values) (beginRule board me call values words)
-  begin-timed board me call values words h o =
-      begin-cases (After (begin me call values)) board me call values words
-      (λ a b. put-timed s own board me (beginning (board .settings) call values (processAt board me)) (record { call = call; steps = 0 })
-      (room board me words h a) (record { sum = rw (h .settings) (omega (arith, first-timed (s .kind) (s .w) call)) }) o)
-      (λ r. o)
-
-  step-timed : (board : Board) (me : ℕ) (words : List ℕ) → BoardOf s board → AllTimed board own →
-      After (step me) (stepRule board me words .0)
-  unfolding processStep
-  step-timed board me words h o =
-      step-cases (λ a. After (step me) (a .0)) board me words
-      (λ a busy.
-      let p : Process = processAt board me in
-      let moved : Moved = stepFrom (p .place) (board .settings) p me words .0 in
-      let n = nearer (board .settings) p me words (sized (board .settings) (a .sizes .settings) .w-least) (p .opened) (p .place)
-      (clauses (board .settings) p (process-fits board words (a .good) me (a .mine)) .place) busy in
-      let d : left (s .w) (moved .process .place) < left (s .w) (p .place) = rw (← (h .settings)) n in
-      let mine : Timed s (counting (step me) (own me)) (moved .process .place) = record { sum = omega (arith, o me .sum) } in
-      rw (framed (p .place) (board .settings) p me words busy .own .answers) (put-timed s own board me (moved .process) (counting (step me) (own me)) (room board me words h a) mine o))
-      (λ r. o)
-
 timed : (s : Settings) (lent : List ℕ) → sizesCheck s (length lent) ≡ Fine → (events : List Event) (q : ℕ) →
-    Timed s (ownSteps (fresh s lent) events q) (placeOf (run (fresh s lent) events) q)
-unfolding run ownSteps
-timed s lent ready [] q = rw (fresh-is s lent ready, fresh-idle 16 q) (record { sum = omega arith })
-timed s lent ready (begin me call values ∷ events) q =
-    let state : State = run (fresh s lent) events in
-    begin-timed s (ownSteps (fresh s lent) events) (state .board) me call values (state .words) (run-shaped s lent ready events)
-    (timed s lent ready events) q
-timed s lent ready (step me ∷ events) q =
-    let state : State = run (fresh s lent) events in
-    step-timed s (ownSteps (fresh s lent) events) (state .board) me (state .words) (run-shaped s lent ready events) (timed s lent ready events) q
+    Timed s (ownIn (fresh s lent) events q) (processAt (run (fresh s lent) events .board) q)
+timed s lent ready =
+    each-own s (Timed s)
+    (λ call values p. omega (arith, first-timed (s .kind) (s .w) call))
+    (λ own p me words fits busy pos h. omega (arith, h, nearer s p me words pos (p .opened) (p .place) fits busy))
+    lent ready (omega arith) (omega arith)
 
 -- a process in a call has a step left
 some-left : (w : ℕ) (place : Place) → isIdle place ≡ false → 0 < left w place
@@ -198,14 +148,26 @@ passes board me words e =
     subst (λ (k : Check). taken (stepBy k board me words .0 .answer) ≡ true) (sym e)
     (framed (p .place) (board .settings) p me words (a .1) .own .answers)
 
-sum-of : (t : Turn) → own t .steps + left (t .settings .w) (place t) ≤ mostSteps (t .settings) (own t .call)
-sum-of t = timed (t .settings) (t .lent) (ready-fine (t .settings) (t .lent) (t .ready)) (t .events) (t .me) .sum
+abbrev fine-of : (t : Turn) → sizesCheck (t .settings) (length (t .lent)) ≡ Fine
+fine-of t = ready-fine (t .settings) (t .lent) (t .ready)
+
+sum-of : (t : Turn) → own t .steps + left (t .settings .w) (placeOf (before t) (t .me)) ≤ mostSteps (t .settings) (own t .call)
+sum-of t = timed (t .settings) (t .lent) (fine-of t) (t .events) (t .me)
+
+-- a process is idle exactly if it waits for no answer
+idle-of : (t : Turn) → isIdle (placeOf (before t) (t .me)) ≡ not (own t .waits)
+idle-of t = called (t .settings) (t .lent) (fine-of t) (t .events) (t .me) .idle
+
+in-call : (t : Turn) → own t .waits ≡ true → isIdle (placeOf (before t) (t .me)) ≡ false
+in-call t w = idle-of t ∙ ap not w
 
 pub bounded : StepsBounded
 bounded =
     record {
       never-more = λ t. omega (arith, sum-of t);
-      answered-by-then = λ t busy. omega (arith, sum-of t, some-left (t .settings .w) (place t) busy);
-      never-refused = λ t busy. passes (before t .board) (t .me) (before t .words)
-          (accepts (t .settings) (t .lent) (ready-fine (t .settings) (t .lent) (t .ready)) (t .events) (t .me) busy);
+      answered-by-then = λ t w. omega (arith, sum-of t, some-left (t .settings .w) (placeOf (before t) (t .me)) (in-call t w));
+      never-refused = λ t w. passes (before t .board) (t .me) (before t .words)
+          (accepts (t .settings) (t .lent) (fine-of t) (t .events) (t .me) (in-call t w));
+      idle-if-answered = idle-of;
+      answers-its-call = λ t g. told (t .settings) (t .lent) (fine-of t) (t .events) (t .me) g .answers;
     }

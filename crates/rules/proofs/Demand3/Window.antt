@@ -8,23 +8,27 @@ use native.Mathlib.Omega.{arith}
 use lib.ListN.{length}
 use borrow.Author.Tests.{eq-eqb}
 use Rattle.rules.specs.Bounds.{Sized}
-use Rattle.rules.specs.Demand3.{mostStores, Turn, answer, since, Few, inSequence, AllShort, InWindow}
+use Rattle.rules.specs.Demand3.{mostStores, Turn, Few, AllShort, InWindow}
 use Rattle.rules.specs.Figure2.{change}
-use Rattle.rules.specs.Onlooker.{Seen, Note, quiet, begins, loads, checks, stores, see, taken, variableAt, placeOf, answerOf, variableIn, noteOf, watch, seenIn}
+use Rattle.rules.specs.Onlooker.{Seen, Note, quiet, begins, loads, checks, stores, see, variableIn, noteOf, watch, seenIn}
+use Rattle.rules.specs.OwnSteps.{Own, answerOf, taken, ownIn}
 use Rattle.rules.specs.Processes.{isIdle, processAt}
 use Rattle.rules.specs.Refusals.{sizesCheck}
 use Rattle.rules.specs.Runs.{State, Event, begin, step, processOf, fresh, run}
 use Rattle.rules.specs.Sizes.{bits}
-use Rattle.rules.specs.Types.{Fine, Process, Settings}
+use Rattle.rules.specs.Types.{Answer, Fine, Process, Settings}
 use Rattle.rules.proofs.GoodForm.Held.{clauses, place-in}
 use Rattle.rules.proofs.GoodForm.Keeps.{process-fits}
 use Rattle.rules.proofs.Sizes.Sized.{sized}
+use Rattle.rules.proofs.Changes.Places.{variableAt}
 use Rattle.rules.proofs.Tests.{never}
 use Rattle.rules.proofs.Refusals.Checked.{Accepted, stands}
+use Rattle.rules.proofs.Demand3.Called.{told}
 use Rattle.rules.proofs.Demand3.Change.{change-all}
 use Rattle.rules.proofs.Demand3.Means.{ProcessMeans, alike}
 use Rattle.rules.proofs.Demand3.Invariant.Begin.{fewK}
 use Rattle.rules.proofs.Demand3.Invariant.Whole.{State as Machine}
+use Rattle.rules.proofs.Calls.Told.{placeOf, sequenceAt}
 use Rattle.rules.proofs.Demand3.Runs.{step-cases, ready-fine, BoardOf, run-shaped}
 use Rattle.rules.proofs.Demand3.Along.{Stood, along}
 
@@ -37,34 +41,38 @@ more p checks o = omega arith
 more p (stores new true) o = omega arith
 more p (stores new false) o = omega arith
 
-grows : (event : Event) (state : State) (seen : ℕ → Seen) (y : ℕ) → seen y .total ≤ watch event state seen y .total
-grows event state seen y = by (taken (answerOf event state))
+grows : (s : Settings) (event : Event) (answer : Answer) (own : Own) (seen : ℕ → Seen) (y : ℕ)
+    → seen y .total ≤ watch s event answer own seen y .total
+grows s event answer own seen y = by (taken answer)
   where
-    by : (t : Bool) → seen y .total ≤ cond t (change seen (variableIn event state)
-        (see (processOf event) (noteOf event state) (seen (variableIn event state)))) seen y .total
-    by true = change-all (λ j o. seen j .total ≤ o .total) seen (variableIn event state)
-        (see (processOf event) (noteOf event state) (seen (variableIn event state)))
-        (more (processOf event) (noteOf event state) (seen (variableIn event state))) (λ j n. omega arith) y
+    by : (t : Bool) → seen y .total ≤ cond t (change seen (variableIn event own)
+        (see (processOf event) (noteOf s event own answer) (seen (variableIn event own)))) seen y .total
+    by true = change-all (λ j o. seen j .total ≤ o .total) seen (variableIn event own)
+        (see (processOf event) (noteOf s event own answer) (seen (variableIn event own)))
+        (more (processOf event) (noteOf s event own answer) (seen (variableIn event own))) (λ j n. omega arith) y
     by false = omega arith
+
+grows-by : (start : State) (event : Event) (events : List Event) (x : ℕ) → seenIn start events x .total ≤ seenIn start (event ∷ events) x .total
+unfolding seenIn
+grows-by start event events x =
+    grows (start .board .settings) event (answerOf event (run start events)) (ownIn start events (processOf event)) (seenIn start events) x
 
 -- so what holds of the totals of a whole order holds of those before each of its steps
 pub grows-on : (start : State) (later events : List Event) (x : ℕ) → seenIn start events x .total ≤ seenIn start (later ++ events) x .total
-unfolding seenIn
 grows-on start [] events x = omega arith
-grows-on start (event ∷ later) events x =
-    omega (arith, grows-on start later events x, grows event (run start (later ++ events)) (seenIn start (later ++ events)) x)
+grows-on start (event ∷ later) events x = omega (arith, grows-on start later events x, grows-by start event (later ++ events) x)
 
 -- a sequence has no more stores than there were in all
 module _ (s : Settings) (z : Sized s) where
   few-there : (state : State) (seen : ℕ → Seen) (me : ℕ) → BoardOf s (state .board) → Stood s state seen →
-      taken (answerOf (step me) state) ≡ true → inSequence (placeOf state me) ≡ true →
+      taken (answerOf (step me) state) ≡ true → sequenceAt (placeOf state me) ≡ true →
       length (seen (variableAt (placeOf state me)) .since me) ≤ seen (variableAt (placeOf state me)) .total
   few-there state seen me h S =
-      step-cases (λ a. taken (a .0 .answer) ≡ true → inSequence (placeOf state me) ≡ true →
+      step-cases (λ a. taken (a .0 .answer) ≡ true → sequenceAt (placeOf state me) ≡ true →
       length (seen (variableAt (placeOf state me)) .since me) ≤ seen (variableAt (placeOf state me)) .total)
       (state .board) me (state .words) (λ a busy g i. there a busy i) (λ r g i. never (sym g))
     where
-      there : Accepted (state .board) me (state .words) → isIdle (placeOf state me) ≡ false → inSequence (placeOf state me) ≡ true →
+      there : Accepted (state .board) me (state .words) → isIdle (placeOf state me) ≡ false → sequenceAt (placeOf state me) ≡ true →
           length (seen (variableAt (placeOf state me)) .since me) ≤ seen (variableAt (placeOf state me)) .total
       there t busy i =
           let st : Machine = S .machine in
@@ -91,25 +99,22 @@ module _ (s : Settings) (z : Sized s) where
 
   short-of-few : (lent : List ℕ) → sizesCheck s (length lent) ≡ Fine → (events : List Event) →
       ((x : ℕ) → x < s .t → seenIn (fresh s lent) events x .total ≤ mostStores (bits s)) → AllShort (fresh s lent) (bits s) events
-  unfolding seenIn AllShort
+  unfolding AllShort
   short-of-few lent f [] F = tt
   short-of-few lent f (begin me call values ∷ events) F =
-      short-of-few lent f events (λ x l. omega (
-        arith,
-        F x l,
-        grows (begin me call values) (run (fresh s lent) events)
-            (seenIn (fresh s lent) events) x,
-      ))
+      short-of-few lent f events (λ x l. omega (arith, F x l, grows-by (fresh s lent) (begin me call values) events x))
   short-of-few lent f (step me ∷ events) F =
       let state : State = run (fresh s lent) events in
       let G : (x : ℕ) → x < s .t → seenIn (fresh s lent) events x .total ≤ mostStores (bits s) =
-      λ x l. omega (arith, F x l, grows (step me) (run (fresh s lent) events) (seenIn (fresh s lent) events) x) in
+      λ x l. omega (arith, F x l, grows-by (fresh s lent) (step me) events x) in
       let A : AllShort (fresh s lent) (bits s) events = short-of-few lent f events G in (
-        λ g i. omega (
-          arith,
-          G (variableAt (placeOf state me)) (step-variable state me (run-shaped s lent f events) g),
-          few-there state (seenIn (fresh s lent) events) me (run-shaped s lent f events) (along s z lent f events A) g i,
-        ),
+        λ g i.
+            let t = told s lent f events me g in
+            rw (← (t .variable)) (omega (
+              arith,
+              G (variableAt (placeOf state me)) (step-variable state me (run-shaped s lent f events) g),
+              few-there state (seenIn (fresh s lent) events) me (run-shaped s lent f events) (along s z lent f events A) g (t .sequence ∙ i),
+            )),
         A,
       )
 

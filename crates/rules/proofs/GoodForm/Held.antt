@@ -9,7 +9,7 @@ use borrow.Author.Tests.{ltb-true}
 use Rattle.word.specs.Word.{valueLimit, valueOf}
 use Rattle.rules.specs.GoodForm.{names, valueFits, onePlace, manyPlace, onePlaceOpen, manyPlaceOpen, headerHeld, segmentHeld, valueHeld, placeFits, valuesFit, keptFit, openFits, processFits}
 use Rattle.rules.specs.InForm.{Clauses}
-use Rattle.rules.specs.Onlooker.{variableAt}
+use Rattle.rules.proofs.Changes.Places.{variableAt}
 use Rattle.rules.specs.Processes.{isIdle, isOpen}
 use Rattle.rules.specs.Sizes.{bits, isOne, isMany, wordsUsed, usedBy}
 use Rattle.rules.specs.Types.{Copy, Kind, One, Many, Place, Idle, LoadReadsWord, ValidateReadsWord, StoreSwapsWord, LoadReadsHeader, ValidateReadsHeader, StoreReadsHeader, StoreAnnounces, StoreSwapsHeader, ReadsSegment, ReadsAnnounced, SwapsSegment, ReadsSegmentAgain, ReadsHeader, Process, Settings}

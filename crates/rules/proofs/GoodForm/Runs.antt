@@ -3,11 +3,12 @@
 use mathlib.Core.Path.{_≡_, refl, sym, _∙_, subst}
 use mathlib.Core.List.{List, [], _∷_}
 use Prim.Native.Nat.{ℕ, _≤_}
-use lib.ListN.{length, getD}
+use lib.ListN.{length}
 use Rattle.rules.specs.Entry.{beginRule, stepRule}
 use Rattle.rules.specs.Refusals.{sizesCheck, beginCheck, stepCheck}
 use Rattle.rules.specs.Runs.{State, Event, begin, step, after, fresh, run}
 use Rattle.rules.specs.Sizes.{wordsUsed}
+use Rattle.rules.specs.Statements.{Running}
 use Rattle.rules.proofs.Refusals.Checked.{stands}
 use Rattle.rules.proofs.GoodForm.Fresh.{set-up-accepted, fresh-in-form, fresh-length, fresh-past}
 use Rattle.rules.specs.InForm.{InForm}
@@ -16,13 +17,6 @@ use Rattle.rules.proofs.GoodForm.Keeps.{begin-keeps, step-keeps}
 use Rattle.rules.proofs.Changes.Leaves.{begin-settings, step-settings, step-length, step-past}
 use Rattle.rules.proofs.Refusals.Refusing.{begin-refused, step-refused}
 use Rattle.rules.proofs.Sizes.Sized.{sized}
-
--- a state that came from a set-up with these settings and words lent
-pub record Running (s : Settings) (lent : List ℕ) (state : State) : Type 0 where
-  pub settings : state .board .settings ≡ s
-  pub form : InForm (state .board) (state .words)
-  pub long : length (state .words) ≡ length lent
-  pub past : (a : ℕ) → wordsUsed s ≤ a → getD (state .words) a 0 ≡ getD lent a 0
 
 -- any begin or step, accepted or refused, keeps form
 pub begin-in-form : (me : ℕ) (call : Call) (values : List ℕ) (state : State) → InForm (state .board) (state .words)

@@ -6,7 +6,7 @@ use mathlib.Core.List.{List}
 use Prim.Native.Nat.{ℕ}
 use lib.ListN.{length}
 use Rattle.rules.specs.Entry.{blankBoard, refusing, setUpRule, setUpBy, beginRule, beginBy, stepRule, stepBy, openCountRule, openCountBy}
-use Rattle.rules.specs.Onlooker.{taken}
+use Rattle.rules.specs.OwnSteps.{taken}
 use Rattle.rules.specs.Processes.{processAt}
 use Rattle.rules.specs.Refusals.{sizesCheck, processCheck, beginCheck, stepCheck}
 use Rattle.rules.specs.Sizes.{settingsFit}
@@ -80,6 +80,15 @@ step-refuses board me words r = go (stepCheck board me words) refl
         let frame = framed (processAt board me .place) (board .settings) (processAt board me) me words busy in
         refused-only r _ (frame .own .answers) e
     go (Refused q) f e = cc
+
+pub count-refuses : (board : Board) (me : ℕ) (words : List ℕ) (r : Refusal)
+    → openCountRule board me words ≡ CountRefused r → processCheck board me words ≡ Refused r
+unfolding openCountRule
+count-refuses board me words r = go (processCheck board me words)
+  where
+    go : (c : Check) → openCountBy c board me ≡ CountRefused r → c ≡ Refused r
+    go Fine e = cc
+    go (Refused q) e = cc
 
 -- the blank board, which a refused set-up gives, is refused 1 by every entry point
 module _ (me : ℕ) (words : List ℕ) where

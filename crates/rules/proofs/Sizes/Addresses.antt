@@ -8,12 +8,20 @@ use lib.Arith.{digits-div, digits-mod}
 use lib.Pow.{pow-mono}
 use Rattle.word.specs.Word.{valueLimit}
 use Rattle.rules.specs.Bounds.{Sized}
-use Rattle.rules.specs.Sizes.{bits, headerAt, segmentAt, announceAt, usedBy}
-use Rattle.rules.specs.Types.{Many, Settings}
+use Rattle.rules.specs.Sizes.{bits, headerAt, segmentAt, announceAt, usedBy, wordsUsed}
+use Rattle.rules.specs.Types.{Kind, One, Many, Settings}
 
 -- row x of d words lies whole within t rows
 row-within : {x t : ℕ} (d : ℕ) → x < t → x * d + d ≤ t * d
 row-within {x} {t} d h = subst (λ (n : ℕ). n ≤ t * d) (suc-mul x d) (mul-le-mul-right d h)
+
+-- the words that each kind uses
+module _ (s : Settings) where
+  pub used-one : s .kind ≡ One → {a : ℕ} → a < s .t → a < wordsUsed s
+  used-one e {a} h = subst (λ (k : Kind). a < usedBy k s) (sym e) h
+
+  pub used-many : s .kind ≡ Many → {a : ℕ} → a < usedBy Many s → a < wordsUsed s
+  used-many e {a} h = subst (λ (k : Kind). a < usedBy k s) (sym e) h
 
 module _ (s : Settings) (z : Sized s) where
   pub used-most : usedBy Many s ≤ 144

@@ -7,10 +7,10 @@ use Prim.Native.Nat.{ℕ, _<_}
 use lib.ListN.{length, getD}
 use Rattle.rules.specs.Figure2.{change}
 use Rattle.rules.specs.Figure4.{Step}
-use Rattle.rules.specs.Onlooker.{noteAt, newValues}
 use Rattle.rules.specs.Sizes.{bits}
 use Rattle.rules.specs.Types.{Answer, Busy, Value, Witness, Yes, No, Copy, Kind, One, Many, Place, Idle, LoadReadsWord, ValidateReadsWord, StoreSwapsWord, LoadReadsHeader, ValidateReadsHeader, StoreReadsHeader, StoreAnnounces, StoreSwapsHeader, ReadsSegment, ReadsAnnounced, SwapsSegment, ReadsSegmentAgain, ReadsHeader, Process, Settings}
 use Rattle.rules.proofs.Demand3.Invariant.Kinds.{width}
+use Rattle.rules.proofs.Calls.Told.{noteAt, valuesAt}
 use Rattle.rules.proofs.Demand3.Invariant.Many.{isLoad}
 use Rattle.rules.proofs.Demand3.Link.Keeping.{Held}
 use Rattle.rules.proofs.Demand3.Link.Memory.{WroteK}
@@ -79,4 +79,4 @@ pub record Linked (k : Kind) (s : Settings) (p x : ℕ) (place : Place) (q : Pro
   pub held : Held k s (change sequences x (c .sequence)) (r .0 .process .keep) (r .0 .process .opened)
   pub wrote : WroteK k s p x (c .put) words (r .1)
   pub says : Says (width k (s .w)) (r .0 .values) (c .told) (r .0 .answer)
-  pub note : noteAt place (newValues q) (r .0 .answer) ≡ c .note
+  pub note : noteAt place (valuesAt q) (r .0 .answer) ≡ c .note
