@@ -1,5 +1,7 @@
 // A schedule record answered on the one process that it moves, and its row written. What each record prints, and so the
 // printout of a whole input, stands in this crate's specs.
+#![tactic(auto)]
+
 ghost use Rattle.std.specs.Prelude.{◌-◌, ◌≤◌, length};
 ghost use Rattle.rules.specs.Bounds.{Sized};
 ghost use Rattle.rules.specs.Sizes.{words_used};
@@ -19,7 +21,7 @@ pub use rows::{nobodys_row, set_up_row};
 use rules::{Process, Settings, Values};
 
 // A run waits for its set-up, runs, or is over.
-#[derive(Drop)]
+#[derive(Clone, Copy)]
 pub enum Stage {
     Waiting,
     Running,
@@ -27,7 +29,7 @@ pub enum Stage {
 }
 
 // A process after a record, and the output's next place after the row.
-#[derive(Drop)]
+#[derive(Clone, Copy)]
 pub struct Taken {
     pub process: Process,
     pub len: usize,

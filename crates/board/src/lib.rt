@@ -1,5 +1,7 @@
 // The entry points of a board: set-up, begin, step and open count, over every input. None has a `requires`: what cannot
 // be served is refused, by document 01's number and in its order, and is left as found.
+#![tactic(auto)]
+
 ghost use Rattle.std.specs.Prelude.{◌≡◌, List, ℕ, ◌<◌};
 ghost use Rattle.rules.specs.Entry.{refusing, laid_back, begin_rule, step_rule, open_count_rule};
 ghost use Rattle.rules.specs.declared.Answered.{Answered};

@@ -1,6 +1,8 @@
 // A call begun on one process by value, and the count of its open sequences, for whoever keeps a board in good form and
 // need not have it looked at again: the entry points do the same after their checks. Its step is `steps::process_step`,
 // which refuses an idle process.
+#![tactic(auto)]
+
 ghost use Rattle.std.specs.Prelude.{◌≡◌, true};
 ghost use Rattle.calls.specs.OneProcess.{begin_process_rule};
 ghost use Rattle.rules.specs.Bounds.{Sized};

@@ -1,5 +1,7 @@
 // The code of Figure 6's Copy, with document 01's mended line 6: a function for each place, which takes the step from
 // there. The numbers are the figure's lines.
+#![tactic(auto)]
+
 ghost use Rattle.std.specs.Prelude.{◌≡◌, ◌≤◌, ◌<◌, length};
 ghost use Rattle.word.specs.Word.{value_of, value_limit};
 ghost use Rattle.rules.specs.Bounds.{Sized};

@@ -14,7 +14,7 @@ const VALUES: u64 = 72057594037927936;
 
 // What is handed to the entry points: a fresh board of the settings, with one process put in and one word written, and
 // so many words lent; then a process, a variable and four values.
-#[derive(Drop)]
+#[derive(Clone, Copy)]
 pub struct Case {
     pub settings: Settings,
     pub at: usize,

@@ -1,5 +1,7 @@
 // A record by RFC 4180: its form, its fields as parts of it, and the numbers in them. A record is handed in with its
 // closing CR LF where it has one, at any length.
+#![tactic(auto)]
+
 mod number;
 mod parts;
 mod shape;

@@ -5,7 +5,7 @@ ghost use Rattle.fields.specs.Fields.{field_of};
 
 use super::parts::field;
 
-#[derive(Drop)]
+#[derive(Clone, Copy)]
 pub enum Number {
     Value(u64),
     NotInForm,

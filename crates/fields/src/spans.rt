@@ -5,7 +5,7 @@ ghost use Rattle.fields.specs.Spans.{start_of, end_from, span_of};
 use super::shape::body;
 
 // From byte `start` on, to the one before byte `end`.
-#[derive(Drop)]
+#[derive(Clone, Copy)]
 pub struct Span {
     pub start: usize,
     pub end: usize,

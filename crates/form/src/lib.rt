@@ -1,4 +1,6 @@
 // Good form and sizes, decided: a function for each definition of the rules' Sizes and GoodForm.
+#![tactic(auto)]
+
 mod places;
 mod processes;
 mod sizes;

@@ -1,5 +1,7 @@
 // The code of Figure 6 of source document 001, many segments, but for its Copy: a function for each place, which takes
 // the step from there. Here the load's and the validate's own places; the numbers are the figure's lines.
+#![tactic(auto)]
+
 ghost use Rattle.std.specs.Prelude.{◌≡◌, ◌≤◌, ◌<◌, length};
 ghost use Rattle.rules.specs.Bounds.{Sized};
 ghost use Rattle.rules.specs.Figure6.{load_reads_header, validate_reads_header};

@@ -1,4 +1,6 @@
 // The code of Figure 4 of source document 001, one word: a function for each place, which takes the step from there.
+#![tactic(auto)]
+
 ghost use Rattle.std.specs.Prelude.{◌≡◌, ◌≤◌, ◌<◌, length, get_or};
 ghost use Rattle.word.specs.Word.{value_limit};
 ghost use Rattle.rules.specs.Bounds.{Sized};

@@ -1,4 +1,6 @@
 // The printout: its heading and its rows, written into lent bytes.
+#![tactic(auto)]
+
 mod row_fields;
 mod value_fields;
 
@@ -11,21 +13,21 @@ use rules::Answer;
 use writing::put;
 
 // Whose record a row tells of: nobody's after 10, 11 and 12, the set-up, or a process with its act.
-#[derive(Drop)]
+#[derive(Clone, Copy)]
 pub enum Who {
     Nobody,
     SetUp,
     Process(u64, Act),
 }
 
-#[derive(Drop)]
+#[derive(Clone, Copy)]
 pub enum Open {
     Blank,
     Count(u64),
 }
 
 // Of `values` the first `w` are printed where the answer is `Value`.
-#[derive(Drop)]
+#[derive(Clone, Copy)]
 pub struct Row {
     pub number: u64,
     pub who: Who,

@@ -10,7 +10,7 @@ use rules::Answer;
 use writing::{put, put_number};
 
 // Numbers for the value fields: the first `count` of the list.
-#[derive(Drop)]
+#[derive(Clone, Copy)]
 struct Numbers {
     list: [u64; 4],
     count: usize,

@@ -1,5 +1,7 @@
 // A process changed in one thing, by value, and what a step makes of it. The rules give each change its meaning, under
 // the same name.
+#![tactic(auto)]
+
 ghost use Rattle.std.specs.Prelude.{◌≡◌, ◌<◌};
 ghost use Rattle.rules.specs.Processes.{is_open, with_open, with_closed, at, opening, closing, keeping, kept_of, gathering, gathering_anew, goes_on, ends, ends_with};
 

@@ -10,7 +10,7 @@ use rules::Call;
 use word::Refusal;
 
 // What a record asks for. The values of a store lie beside it.
-#[derive(Drop)]
+#[derive(Clone, Copy)]
 pub enum Entry {
     Begin { process: usize, call: Call },
     Step(usize),
@@ -18,14 +18,14 @@ pub enum Entry {
 }
 
 // Values that are not given are 0.
-#[derive(Drop)]
+#[derive(Clone, Copy)]
 pub struct ScheduleRead {
     pub entry: Entry,
     pub values: [u64; 4],
 }
 
 // Values as read, and whether each of them is in form.
-#[derive(Drop)]
+#[derive(Clone, Copy)]
 pub struct ValuesRead {
     pub in_form: bool,
     pub values: [u64; 4],

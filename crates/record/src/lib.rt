@@ -1,4 +1,6 @@
 // What the records of a schedule say: the first one the settings, each later one a call or a step.
+#![tactic(auto)]
+
 mod entries;
 mod setup;
 mod words;
@@ -7,7 +9,7 @@ pub use entries::{Entry, ScheduleRead, at_most_four, read_schedule};
 pub use setup::{SettingsRead, read_settings};
 
 // The acts of document 01: LL, VL, SC and step.
-#[derive(Drop)]
+#[derive(Clone, Copy)]
 pub enum Act {
     Load,
     Validate,

@@ -8,7 +8,7 @@ use rules::Settings;
 use word::{Layout, Refusal};
 
 // The settings as given: whether they are within the sizes is not judged here.
-#[derive(Drop)]
+#[derive(Clone, Copy)]
 pub enum SettingsRead {
     Read(Settings),
     Refused(Refusal),

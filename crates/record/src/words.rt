@@ -5,13 +5,13 @@ ghost use Rattle.record.specs.Words.{same, act_of, kind_of};
 use super::Act;
 use rules::Kind;
 
-#[derive(Drop)]
+#[derive(Clone, Copy)]
 pub enum ActRead {
     Known(Act),
     Unknown,
 }
 
-#[derive(Drop)]
+#[derive(Clone, Copy)]
 pub enum KindRead {
     Known(Kind),
     Unknown,

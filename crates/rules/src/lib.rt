@@ -1,15 +1,17 @@
 // The types that the rules speak of, in the forms that document 01 names. What is right is said in specs/: Figures 4
 // and 6, good form, the refusals in their order, and the entry rules; this crate has no code of its own.
+#![tactic(auto)]
+
 use word::{Layout, Refusal};
 
-#[derive(Drop)]
+#[derive(Clone, Copy)]
 pub enum Kind {
     One,
     Many,
 }
 
 // N processes, T variables, W segments; the tag bits b stand in the layout.
-#[derive(Drop)]
+#[derive(Clone, Copy)]
 pub struct Settings {
     pub kind: Kind,
     pub n: usize,
@@ -22,7 +24,7 @@ pub struct Settings {
 pub type Values = [u64; 4];
 
 // A call of a variable. The values of a store lie beside it.
-#[derive(Drop)]
+#[derive(Clone, Copy)]
 pub enum Call {
     Load(usize),
     Validate(usize),
@@ -30,7 +32,7 @@ pub enum Call {
 }
 
 // Where Copy is: its variable, the header it was given, the segment, and whether it gathers values (in a load).
-#[derive(Drop)]
+#[derive(Clone, Copy)]
 pub struct Copy {
     pub variable: usize,
     pub header: u64,
@@ -39,7 +41,7 @@ pub struct Copy {
 }
 
 // Where a process stands in its call, named by the access that its next step makes.
-#[derive(Drop)]
+#[derive(Clone, Copy)]
 pub enum Place {
     Idle,
     // Figure 4, of a variable
@@ -62,7 +64,7 @@ pub enum Place {
 }
 
 // One keep-word a variable; bit x of `opened` is set while the sequence on variable x is open.
-#[derive(Drop)]
+#[derive(Clone, Copy)]
 pub struct Process {
     pub place: Place,
     pub opened: u16,
@@ -71,14 +73,14 @@ pub struct Process {
     pub gathered: Values,
 }
 
-#[derive(Drop)]
+#[derive(Clone, Copy)]
 pub struct Board {
     pub settings: Settings,
     pub processes: [Process; 16],
 }
 
 // Values of `Value` lie beside it.
-#[derive(Drop)]
+#[derive(Clone, Copy)]
 pub enum Answer {
     Begun,
     Busy,
@@ -90,7 +92,7 @@ pub enum Answer {
 }
 
 // A process after its step, with the answer and its values.
-#[derive(Drop)]
+#[derive(Clone, Copy)]
 pub struct Moved {
     pub process: Process,
     pub answer: Answer,
@@ -98,34 +100,34 @@ pub struct Moved {
 }
 
 // A board after a begin or a step, with the answer and its values.
-#[derive(Drop)]
+#[derive(Clone, Copy)]
 pub struct Answered {
     pub board: Board,
     pub answer: Answer,
     pub values: Values,
 }
 
-#[derive(Drop)]
+#[derive(Clone, Copy)]
 pub enum Start {
     Ready,
     Refused(Refusal),
 }
 
 // A set-up's board. A refused set-up gives the blank board, which every entry point refuses.
-#[derive(Drop)]
+#[derive(Clone, Copy)]
 pub struct SetUp {
     pub start: Start,
     pub board: Board,
 }
 
-#[derive(Drop)]
+#[derive(Clone, Copy)]
 pub enum OpenCount {
     Open(u32),
     Refused(Refusal),
 }
 
 // What a check of a begin, a step or a count finds: the first refusal that holds, or that all is well.
-#[derive(Drop)]
+#[derive(Clone, Copy)]
 pub enum Check {
     Fine,
     Refused(Refusal),

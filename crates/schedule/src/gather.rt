@@ -5,7 +5,7 @@ ghost use Rattle.schedule.specs.Gathering.{line_length, put};
 
 use crate::LINE_LENGTH;
 
-#[derive(Drop)]
+#[derive(Clone, Copy)]
 pub struct Found {
     pub held: usize,
     pub cr: bool,

@@ -1,5 +1,7 @@
 // A run of the program from bytes in to bytes out: records are gathered across chunks, each is answered by the rules, and
 // its row is written.
+#![tactic(auto)]
+
 ghost use Rattle.std.specs.Prelude.{◌≡◌, ◌-◌, ◌≤◌, length};
 ghost use Rattle.printout.specs.Writing.{Written, put_heading, longest_row};
 ghost use Rattle.schedule.specs.Feeding.{feeding, session_of, is_over, finish_of};
@@ -26,7 +28,7 @@ pub const LINE_LENGTH: usize = 513;
 
 // A run between two chunks. `held` bytes of the next record stand in a lent line; `cr`: the last of them was a CR. Only this
 // crate makes one: so a caller has no other than `start`, `feed` and `finish` gave it.
-#[derive(Drop)]
+#[derive(Clone, Copy)]
 pub struct Session {
     stage: Stage,
     board: Board,
@@ -36,14 +38,14 @@ pub struct Session {
 }
 
 // A run after a record or at its start, and how many bytes the output holds.
-#[derive(Drop)]
+#[derive(Clone, Copy)]
 pub struct Next {
     pub session: Session,
     pub len: usize,
 }
 
 // A run after some bytes: the place of the next byte, and how many bytes the output holds.
-#[derive(Drop)]
+#[derive(Clone, Copy)]
 pub struct Fed {
     pub session: Session,
     pub next: usize,

@@ -7,7 +7,7 @@ ghost use Rattle.simulator.specs.Inputs.{Reads, count_limit};
 use crate::output::warn;
 use libc::STDIN_FILENO;
 
-#[derive(Drop)]
+#[derive(Clone, Copy)]
 pub struct Input {
     total: usize,
     ended: bool,

@@ -4,6 +4,8 @@
 // so that, where no write failed, as many bytes were written as the printout of those taken has (`print`). What they cannot say
 // is which bytes the system reads and writes: that is to be believed of the one read in input.rt and the one write in output.rt;
 // and of this file that `turn` alone feeds the run, and that no result of `input::read` or `output::flush` is left unused.
+#![tactic(auto)]
+
 ghost use Rattle.std.specs.Prelude.{◌≡◌, ◌||◌, ◌+◌, ◌≤◌, ◌<◌, length};
 ghost use Rattle.schedule.specs.Feeding.{is_over};
 ghost use Rattle.schedule.specs.Longest.{longest_printout};
@@ -23,20 +25,20 @@ use schedule::Session;
 const MOST_READ: usize = usize::MAX - 65535;
 
 // A run, and what waits of its printout.
-#[derive(Drop)]
+#[derive(Clone, Copy)]
 struct State {
     session: Session,
     held: Output,
 }
 
-#[derive(Drop)]
+#[derive(Clone, Copy)]
 struct AfterRead {
     state: State,
     input: Input,
 }
 
 // What is left of a run that has ended.
-#[derive(Drop)]
+#[derive(Clone, Copy)]
 struct Ended {
     held: Output,
     input: Input,

@@ -10,7 +10,7 @@ use libc::{STDERR_FILENO, STDOUT_FILENO};
 
 // The first `len` bytes wait, and `written` were written before them. After a write that failed no other is made and none is
 // counted, so that a printout is cut short but has no gap.
-#[derive(Drop)]
+#[derive(Clone, Copy)]
 pub struct Output {
     len: usize,
     written: usize,

@@ -1,5 +1,7 @@
 // The word layout: the tag in the upper b bits, the value in the lower 64 - b. The tag width is given once, with the
 // layout; the value width is what is left of the word, and is said nowhere else.
+#![tactic(auto)]
+
 ghost use Rattle.std.specs.Prelude.{◌≡◌, ◌^◌, ◌<◌, ◌≤◌};
 ghost use Rattle.word.specs.Word.{bits_fit, tag_limit, value_limit, word, tag_of, value_of, next_tag, previous_tag};
 ghost use Rattle.word.specs.Packing.{pack_rule, unpack_rule};
@@ -7,7 +9,7 @@ ghost use Rattle.word.specs.Packing.{pack_rule, unpack_rule};
 mod numbers; // numbers.rt: the number of each refusal and answer
 
 // Document 01's refusals, in the order of their numbers; `specs/Refusals.antt` gives each its number.
-#[derive(Drop)]
+#[derive(Clone, Copy)]
 pub enum Refusal {
     SettingOutsideSizes,
     MemoryTooShort,
@@ -23,19 +25,19 @@ pub enum Refusal {
     TooManyRecords,
 }
 
-#[derive(Drop)]
+#[derive(Clone, Copy)]
 pub enum Packed {
     Word(u64),
     Refused(Refusal),
 }
 
-#[derive(Drop)]
+#[derive(Clone, Copy)]
 pub enum Unpacked {
     Parts { tag: u64, value: u64 },
     Refused(Refusal),
 }
 
-#[derive(Drop)]
+#[derive(Clone, Copy)]
 pub struct Layout {
     pub bits: u64,
 }
