@@ -1,0 +1,19 @@
+-- `many_place_open` meets its contract: a variable below T has its bit in the mask. Assumes nothing.
+use mathlib.Core.Path.{◌∙◌, sym}
+use native.Mathlib.Omega.{arith}
+use Rattle.rules.proofs.GoodForm.Held as held
+use Rattle.rules.specs.GoodForm as form
+use Rattle.form.proofs.places.many_place_open.Goals as goal
+
+pub is_open-requires : goal.is_open-requires
+is_open-requires c =
+    let args = c.args in
+    omega (arith, held.many_in args.s args.x (sym c.many_place.ensures ∙ c.if-many_place.true))
+
+pub returns-then-many_place : goal.returns-then-many_place
+unfolding form.many_place_open
+returns-then-many_place c = simp (c.is_open.ensures, sym c.many_place.ensures ∙ c.if-many_place.true)
+
+pub returns : goal.returns
+unfolding form.many_place_open
+returns c = simp (sym c.many_place.ensures ∙ c.if-many_place.false)
