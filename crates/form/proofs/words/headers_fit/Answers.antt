@@ -1,8 +1,12 @@
 -- `headers_fit` meets its contract. The invariant: the first x headers name a process. Assumes nothing.
 use mathlib.Core.Path.{◌≡◌, ap, ◌∙◌, sym}
+use mathlib.Core.Bool.{Bool}
+use mathlib.Core.List.{List}
 use Prim.Native.Nat.{ℕ}
 use lib.ListN.{get_or}
 use Rattle.rules.specs.GoodForm as form
+use Rattle.rules.specs.Sizes.{header_at, header_of}
+use Rattle.rules.specs.declared.Settings.{Settings}
 use Rattle.rules.proofs.Trying.{none_yet, one_more_lem, one_fails, all_pass}
 use Rattle.form.proofs.words.headers_fit.Goals as goal
 
@@ -10,20 +14,17 @@ pub loop-x-init : goal.loop-x-init
 loop-x-init c = none_yet _ _
 
 -- the word read is the header of x
-tried : (c : goal.After-names) →
-    let args = c.args in
-    fits args.s args.mem.now c.loop-x.x ≡ c.names.result
-tried c =
-    let args = c.args in
-    ap (λ (k : ℕ). form.names args.s (get_or args.mem.now k 0)) (sym c.header_at-at.ensures.0) ∙ sym c.names.ensures
+tried : (s : Settings) (x : ℕ) (words : List ℕ) {at : ℕ} {answer : Bool} → at ≡ header_at s x
+    → answer ≡ form.names s (get_or words at 0) → form.names s (header_of s x words) ≡ answer
+tried s x words place answers = ap (λ (k : ℕ). form.names s (get_or words k 0)) (sym place) ∙ sym answers
 
 pub returns-then-not-names : goal.returns-then-not-names
 unfolding form.headers_fit
-returns-then-not-names c = one_fails _ _ _ c.loop-x-test.true (tried c ∙ c.if-not-names.true)
+returns-then-not-names c = one_fails _ _ _ c.loop-x-test.true (tried c.args.s c.loop-x.x c.args.mem.now c.header_at-at.ensures.0 c.names.ensures ∙ c.if-not-names.true)
 
 pub loop-x-preserved : goal.loop-x-preserved
 loop-x-preserved c =
-    one_more_lem _ _ _ c.loop-x.invariant c.loop-x-test.true (tried c ∙ c.if-not-names.false)
+    one_more_lem _ _ _ c.loop-x.invariant c.loop-x-test.true (tried c.args.s c.loop-x.x c.args.mem.now c.header_at-at.ensures.0 c.names.ensures ∙ c.if-not-names.false)
 
 pub returns : goal.returns
 unfolding form.headers_fit
