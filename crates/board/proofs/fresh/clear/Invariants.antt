@@ -1,0 +1,17 @@
+-- `clear` meets its contract. The invariant: the first i words are 0, and the others as lent. Assumes nothing.
+use mathlib.Core.List.{List, ◌++◌}
+use mathlib.Core.Path.{◌≡◌, refl, ap, ◌∙◌}
+use Prim.Native.Nat.{ℕ, ◌≤◌, ◌-◌}
+use native.Mathlib.Omega.{arith}
+use lib.ListN.{length, set, length-set, replicate, drop}
+use borrow.Author.Fill.{fill_none, fill_more}
+use borrow.Author.Rules.{rules}
+use Rattle.board.proofs.fresh.clear.Given as goal
+
+abbrev pub invariant-loop-i : goal.invariant-loop-i
+invariant-loop-i l =
+    (l.i ≤ l.used) × (length l.mem ≡ length l.initial.mem) × (l.mem ≡ replicate l.i 0 ++ drop l.i l.initial.mem)
+
+abbrev pub decreases-loop-i : goal.decreases-loop-i
+decreases-loop-i l =
+    l.used - l.i

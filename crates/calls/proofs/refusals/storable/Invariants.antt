@@ -1,0 +1,21 @@
+-- `storable` meets its contract. The invariant: the first i values may stand there. Assumes nothing.
+use mathlib.Core.Path.{◌∙◌, sym}
+use mathlib.Core.Bool.{◌&&◌, ◌||◌}
+use Prim.Native.Nat.{◌-◌}
+use native.Mathlib.Omega.{arith}
+use lib.Dec.{ltb, eqb}
+use lib.ListN.{get_or}
+use borrow.Author.Rules.{rules}
+use borrow.Author.Tests.{not-true, not-false}
+use Rattle.rules.specs.GoodForm as form
+use Rattle.rules.specs.Refusals as refusals
+use Rattle.rules.proofs.Trying.{Passed, none_yet, one_more_lem, one_fails, all_pass}
+use Rattle.calls.proofs.refusals.storable.Given as goal
+
+abbrev pub invariant-loop-i : goal.invariant-loop-i
+invariant-loop-i l =
+    Passed (λ j. form.value_fits l.s (get_or l.values j 0) && (ltb j l.s.w || eqb (get_or l.values j 0) 0)) 4 l.i
+
+abbrev pub decreases-loop-i : goal.decreases-loop-i
+decreases-loop-i l =
+    4 - l.i
