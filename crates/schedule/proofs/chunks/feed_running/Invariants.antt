@@ -1,0 +1,28 @@
+-- `feed_running` meets its contract. The invariant: what is left to feed gives what all gives, and the board is in order.
+-- The measure is what is left of the chunk. Assumes nothing.
+use native.Mathlib.Omega.{arith}
+use mathlib.Core.Path.{◌≡◌, refl, sym, ap, ◌∙◌, subst}
+use Prim.Native.Nat.{◌-◌, ◌≤◌, ◌<◌}
+use lib.ListN.{length, drop}
+use lib.Seq.{length-take-le}
+use Rattle.rules.specs.Processes.{process_at}
+use Rattle.rules.specs.declared.Settings.{Settings}
+use Rattle.schedule.specs.Feeding.{feeding, feed_of}
+use Rattle.schedule.specs.Gathering.{line_length}
+use Rattle.answers.specs.Order.{InOrder}
+use Rattle.schedule.proofs.Feeding.{feed_full}
+use Rattle.answers.proofs.OneProcess.{all_sized}
+use Rattle.schedule.proofs.Progress.{progress, used_up, open_on, is_full_lem, room, as_running, running_ready, ended_ready, placed}
+use Rattle.schedule.proofs.RunningOn.{running, fed_running, feeds_as, Served, served, too_many, goes_on_lem}
+use Rattle.schedule.proofs.chunks.feed_running.Given as goal
+
+abbrev pub invariant-loop-next : goal.invariant-loop-next
+invariant-loop-next l =
+    (l.next ≤ length l.chunk) × InOrder l.board l.mem × (l.board.settings ≡ l.s) × (l.held ≤ line_length) × (length l.line ≡ line_length)
+    × (length l.line ≡ length l.initial.line) × (length l.mem ≡ length l.initial.mem) × (length l.out ≡ length l.initial.out)
+    × (feed_of (feeding (running l.board l.count l.held l.cr) l.line l.mem l.out l.size) (drop l.next l.chunk) ≡ feed_of (feeding (running l.initial.board l.initial.count l.initial.held l.initial.cr) l.initial.line l.initial.mem l.initial.out l.len) (drop l.at l.chunk))
+
+abbrev pub decreases-loop-next : goal.decreases-loop-next
+decreases-loop-next l =
+    length l.chunk - l.next
+
