@@ -5,7 +5,7 @@ ghost use Rattle.std.specs.Prelude.{◌≡◌, false, ◌+◌, ◌<◌, length};
 ghost use Rattle.simulator.specs.Inputs.{Reads, count_limit};
 
 use crate::output::warn;
-use libc::STDIN_FILENO;
+use std::io::Read;
 
 #[derive(Clone, Copy)]
 pub struct Input {
@@ -38,15 +38,17 @@ pub fn has_ended(input: Input) -> bool
 }
 
 // One read. One that fails counts as the end of the input.
-pub fn read(input: Input, buffer: &mut [u8]) -> Input
+pub fn read(rt: HostRuntime, input: Input, buffer: &mut [u8]) -> Input
     requires { input.total + length buffer.old < count_limit }
     ensures { Reads input (length buffer.old) result }
 {
-    let got = libc::read(STDIN_FILENO, buffer);
-    if got < 0 {
-        warn(b"simulator: the input could not be read to its end\n");
-    }
-    let bytes = io::count(got, buffer);
+    let bytes = match rt.stdin().read(buffer) {
+        Ok(got) => got,
+        Err(_) => {
+            warn(rt, b"simulator: the input could not be read to its end\n");
+            0
+        }
+    };
     Input {
         total: input.total + bytes,
         ended: bytes == 0,

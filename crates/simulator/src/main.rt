@@ -45,18 +45,19 @@ struct Ended {
 }
 
 // The output with room for another row: where there may be none, it is written out.
-fn make_room(out: &[u8], held: Output) -> Output
+fn make_room(rt: HostRuntime, out: &[u8], held: Output) -> Output
     requires { (held.len ≤ length out.now) × (held.written + held.len ≤ longest_printout) }
     ensures { MakesRoom (length out.now) held result }
 {
     if out.len() - output::waiting(held) < LONGEST_ROW {
-        return output::flush(out, held);
+        return output::flush(rt, out, held);
     }
     held
 }
 
 // All bytes of one chunk.
 fn take_chunk(
+    rt: HostRuntime,
     session: Session,
     held: Output,
     chunk: &[u8],
@@ -73,7 +74,7 @@ fn take_chunk(
     let mut output = held;
     let mut at: usize = 0;
     while at < chunk.len() {
-        let room = make_room(out, output);
+        let room = make_room(rt, out, output);
         let len = output::waiting(room);
         let fed = schedule::feed(run, chunk, at, line, mem, out, len);
         run = fed.session;
@@ -88,6 +89,7 @@ fn take_chunk(
 
 // One read of the input, and all that it gave.
 fn turn(
+    rt: HostRuntime,
     session: Session,
     held: Output,
     input: Input,
@@ -101,9 +103,9 @@ fn turn(
         (point session line.old mem.old out.old held) input
         (point result.state.session line.new mem.new out.new result.state.held) result.input buffer.new }
 {
-    let after = input::read(input, buffer);
+    let after = input::read(rt, input, buffer);
     let got = input::total(after) - input::total(input);
-    let state = take_chunk(session, held, &buffer[..got], line, mem, out);
+    let state = take_chunk(rt, session, held, &buffer[..got], line, mem, out);
     AfterRead {
         state: state,
         input: after,
@@ -121,6 +123,7 @@ fn has_stopped(session: Session, input: Input) -> bool
 
 // The whole input, up to its end or the run's.
 fn read_all(
+    rt: HostRuntime,
     session: Session,
     held: Output,
     line: &mut [u8],
@@ -138,7 +141,7 @@ fn read_all(
     let mut input = input::unread();
     let mut total: usize = 0;
     while total < MOST_READ {
-        let taken = turn(run, output, input, line, mem, buffer, out);
+        let taken = turn(rt, run, output, input, line, mem, buffer, out);
         let state = taken.state;
         run = state.session;
         output = state.held;
@@ -158,28 +161,41 @@ fn read_all(
 }
 
 // The end of the input: the output with the last record's row.
-fn end(session: Session, held: Output, line: &[u8], mem: &mut [u64], out: &mut [u8]) -> Output
+fn end(
+    rt: HostRuntime,
+    session: Session,
+    held: Output,
+    line: &[u8],
+    mem: &mut [u64],
+    out: &mut [u8],
+) -> Output
     requires { Stands (point session line.now mem.old out.old held) }
     ensures { Finishes (point session line.now mem.old out.old held) out.new result }
 {
-    let room = make_room(out, held);
+    let room = make_room(rt, out, held);
     let len = output::waiting(room);
     let last = schedule::finish(session, line, mem, out, len);
     output::grown(room, last.len)
 }
 
 // A whole run, but for what waits at its end.
-fn run(line: &mut [u8], mem: &mut [u64], buffer: &mut [u8], out: &mut [u8]) -> Ended
+fn run(
+    rt: HostRuntime,
+    line: &mut [u8],
+    mem: &mut [u64],
+    buffer: &mut [u8],
+    out: &mut [u8],
+) -> Ended
     requires { Lent line.old mem.old buffer.old out.old }
     ensures { Runs line.old out.old out.new result.held result.input }
 {
     let begun = schedule::start(out);
     let session = begun.session;
     let heading = output::begun(begun.len);
-    let read = read_all(session, heading, line, mem, buffer, out);
+    let read = read_all(rt, session, heading, line, mem, buffer, out);
     let state = read.state;
     let after = state.session;
-    let held = end(after, state.held, line, mem, out);
+    let held = end(rt, after, state.held, line, mem, out);
     let input = read.input;
     Ended {
         held: held,
@@ -188,13 +204,19 @@ fn run(line: &mut [u8], mem: &mut [u64], buffer: &mut [u8], out: &mut [u8]) -> E
 }
 
 // A whole run, of which nothing waits any more.
-fn print(line: &mut [u8], mem: &mut [u64], buffer: &mut [u8], out: &mut [u8]) -> Ended
+fn print(
+    rt: HostRuntime,
+    line: &mut [u8],
+    mem: &mut [u64],
+    buffer: &mut [u8],
+    out: &mut [u8],
+) -> Ended
     requires { Lent line.old mem.old buffer.old out.old }
     ensures { Prints line.old out.old out.new result.held result.input }
 {
-    let ended = run(line, mem, buffer, out);
+    let ended = run(rt, line, mem, buffer, out);
     let last = ended.held;
-    let written = output::flush(out, last);
+    let written = output::flush(rt, out, last);
     let input = ended.input;
     Ended {
         held: written,
@@ -202,10 +224,10 @@ fn print(line: &mut [u8], mem: &mut [u64], buffer: &mut [u8], out: &mut [u8]) ->
     }
 }
 
-fn main() {
+fn main(rt: HostRuntime) {
     let mut line = [0u8; 513];
     let mut mem = [0u64; 144];
     let mut buffer = [0u8; 65536];
     let mut out = [0u8; 65536];
-    print(&mut line, &mut mem, &mut buffer, &mut out);
+    print(rt, &mut line, &mut mem, &mut buffer, &mut out);
 }

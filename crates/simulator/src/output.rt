@@ -6,7 +6,7 @@ ghost use Rattle.printout.specs.Row.{heading};
 ghost use Rattle.schedule.specs.Longest.{longest_printout};
 ghost use Rattle.simulator.specs.Outputs.{Flushes};
 
-use libc::{STDERR_FILENO, STDOUT_FILENO};
+use std::io::Write;
 
 // The first `len` bytes wait, and `written` were written before them. After a write that failed no other is made and none is
 // counted, so that a printout is cut short but has no gap.
@@ -49,7 +49,7 @@ pub fn waiting(output: Output) -> usize
 }
 
 // Writes the bytes that wait, so that none does.
-pub fn flush(out: &[u8], output: Output) -> Output
+pub fn flush(rt: HostRuntime, out: &[u8], output: Output) -> Output
     requires { (output.len ≤ length out.now) × (output.written + output.len ≤ longest_printout) }
     ensures { Flushes output result }
 {
@@ -57,10 +57,13 @@ pub fn flush(out: &[u8], output: Output) -> Output
     if output.failed {
         return emptied(output.written, true);
     }
-    if io::write_all(STDOUT_FILENO, &out[..len]) {
+    if rt.stdout().write_all(&out[..len]).is_ok() {
         return emptied(output.written + len, false);
     }
-    warn(b"simulator: the printout could not be written to its end\n");
+    warn(
+        rt,
+        b"simulator: the printout could not be written to its end\n",
+    );
     emptied(output.written, true)
 }
 
@@ -75,6 +78,6 @@ fn emptied(written: usize, failed: bool) -> Output
 }
 
 // A program has no exit status: what went wrong is told on standard error.
-pub fn warn(text: &[u8]) {
-    io::write_all(STDERR_FILENO, text);
+pub fn warn(rt: HostRuntime, text: &[u8]) {
+    let _ = rt.stderr().write_all(text);
 }

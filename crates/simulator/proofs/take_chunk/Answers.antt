@@ -1,0 +1,38 @@
+-- `take_chunk` meets its contract. The invariant: the bytes before `at` are taken. Each turn makes room and takes a byte at
+-- least, so that the measure is what is left of the chunk. Assumes nothing.
+use native.Mathlib.Omega.{arith}
+use mathlib.Core.Path.{refl}
+use Rattle.simulator.proofs.Points.{taken_none, can_flush, rows_put, forward, goes_on_lem}
+use Rattle.simulator.proofs.take_chunk.Goals as goal
+
+pub loop-at-init : goal.loop-at-init
+loop-at-init c =
+    (omega arith, refl, refl, refl, record { taken = taken_none _; stands = c.requires })
+
+pub make_room-room-requires : goal.make_room-room-requires
+make_room-room-requires c = can_flush _ c.loop-at.invariant.4.stands
+
+pub grown-output-requires : goal.grown-output-requires
+grown-output-requires c =
+    let loop = c.loop-at in
+    let put = rows_put _ loop.invariant.4.stands _ c.make_room-room.ensures _ _ _ c.waiting-len.ensures _ _ _ _ c.feed-fed.ensures in
+    omega (arith, put, c.waiting-len.ensures)
+
+pub loop-at-smaller : goal.loop-at-smaller
+loop-at-smaller c =
+    let loop = c.loop-at in
+    let further = forward _ loop.invariant.4.stands _ c.make_room-room.ensures _ _ _ c.waiting-len.ensures _ _ _ _ c.feed-fed.ensures
+    c.loop-at-test.true in
+    omega (arith, further, c.feed-fed.ensures.within)
+
+pub loop-at-preserved : goal.loop-at-preserved
+loop-at-preserved c =
+    let loop = c.loop-at in
+    let on = goes_on_lem _ loop.invariant.4.stands _ c.make_room-room.ensures _ _ _ c.waiting-len.ensures _ _ _ _ c.feed-fed.ensures
+    _ loop.invariant.0 (omega arith) _ c.grown-output.ensures loop.invariant.4.taken in (
+      c.feed-fed.ensures.within,
+      omega arith,
+      omega arith,
+      omega arith,
+      on,
+    )
