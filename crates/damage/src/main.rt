@@ -7,26 +7,29 @@ mod cases; // cases.rt: the families of damage
 mod places; // places.rt: a process at each place
 mod run; // run.rt: a case handed to every entry point
 
+use std::io;
+
 // The cases of a family, in order.
-fn family(f: usize, count: usize) {
+fn family(rt: HostRuntime, f: usize, count: usize) -> io::Result<()> {
     let mut k = 0;
     while k < count {
         let case = cases::case_of(f, k);
-        run::run(f, k, case);
+        run::run(rt, f, k, case)?;
         k += 1;
     }
+    Ok(())
 }
 
-fn main() {
-    family(0, 112);
-    family(1, 112);
-    family(2, 168);
-    family(3, 36);
-    family(4, 288);
-    family(5, 96);
-    family(6, 120);
-    family(7, 44);
-    family(8, 20);
-    family(9, 24);
-    family(10, 160);
+fn main(rt: HostRuntime) -> io::Result<()> {
+    family(rt, 0, 112)?;
+    family(rt, 1, 112)?;
+    family(rt, 2, 168)?;
+    family(rt, 3, 36)?;
+    family(rt, 4, 288)?;
+    family(rt, 5, 96)?;
+    family(rt, 6, 120)?;
+    family(rt, 7, 44)?;
+    family(rt, 8, 20)?;
+    family(rt, 9, 24)?;
+    family(rt, 10, 160)
 }

@@ -1,0 +1,13 @@
+-- `family` meets its contract. The invariant: k is at most the count. Assumes nothing.
+use Prim.Native.Nat.{◌≤◌, ◌-◌}
+use native.Mathlib.Omega.{arith}
+use borrow.Author.Rules.{rules}
+use Rattle.damage.proofs.family.Given as goal
+
+abbrev pub invariant-loop-k : goal.invariant-loop-k
+invariant-loop-k l =
+    l.k ≤ l.count
+
+abbrev pub decreases-loop-k : goal.decreases-loop-k
+decreases-loop-k l =
+    l.count - l.k
