@@ -1,7 +1,5 @@
 -- `family` meets its contract. The invariant: k is at most the count. Assumes nothing.
 use Prim.Native.Nat.{◌≤◌, ◌-◌}
-use native.Mathlib.Omega.{arith}
-use borrow.Author.Rules.{rules}
 use Rattle.damage.proofs.family.Given as goal
 
 abbrev pub invariant-loop-k : goal.invariant-loop-k

@@ -13,7 +13,6 @@ use Rattle.rules.specs.Onlooker.{seen_in}
 use Rattle.rules.specs.OwnSteps.{own_in}
 use Rattle.rules.specs.Runs.{Event, step, run}
 use Rattle.rules.specs.Sizes.{bits}
-use Rattle.rules.specs.Steps as steps
 use Rattle.rules.proofs.Cases.Computing.{schedule}
 use Rattle.rules.specs.Schedules.{p7_events, p8_events}
 use Rattle.rules.specs.Types.{Answer, Value, Witness, Yes, Call, Load, Store, Settings, Ready}

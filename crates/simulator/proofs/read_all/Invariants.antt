@@ -1,13 +1,11 @@
 -- `read_all` meets its contract. The invariant: as many bytes are taken as were read. Each turn that goes on reads a byte at
 -- least, so that the measure is what can still be counted. Assumes nothing.
 use Prim.Native.Nat.{◌-◌}
-use native.Mathlib.Omega.{arith}
-use mathlib.Core.Path.{◌≡◌, refl, sym, ap}
+use mathlib.Core.Path.{◌≡◌}
 use lib.ListN.{length}
-use Rattle.simulator.specs.declared.input.Input.{Input}
 use Rattle.simulator.specs.Inputs.{most_read}
 use Rattle.simulator.specs.Points.{point}
-use Rattle.simulator.proofs.Readings.{ReadSome, read_nothing, read_more, read_all, stopped_by_test, stopped_by_length, read_on}
+use Rattle.simulator.proofs.Readings.{ReadSome}
 use Rattle.simulator.proofs.read_all.Given as goal
 
 abbrev pub invariant-loop-total : goal.invariant-loop-total
@@ -18,4 +16,3 @@ invariant-loop-total l =
 abbrev pub decreases-loop-total : goal.decreases-loop-total
 decreases-loop-total l =
     most_read - l.total
-

@@ -1,13 +1,9 @@
 -- `take_chunk` meets its contract. The invariant: the bytes before `at` are taken. Each turn makes room and takes a byte at
 -- least, so that the measure is what is left of the chunk. Assumes nothing.
-use Prim.Native.Nat.{ℕ, ◌-◌, ◌≤◌}
-use native.Mathlib.Omega.{arith}
-use mathlib.Core.Path.{◌≡◌, refl, subst}
-use mathlib.Core.List.{List}
+use Prim.Native.Nat.{◌-◌, ◌≤◌}
+use mathlib.Core.Path.{◌≡◌}
 use lib.ListN.{length, take}
-use lib.Seq.{take_all}
 use Rattle.simulator.specs.Points.{point, TakesChunk}
-use Rattle.simulator.proofs.Points.{taken_none, can_flush, rows_put, forward, goes_on_lem}
 use Rattle.simulator.proofs.take_chunk.Given as goal
 
 abbrev pub invariant-loop-at : goal.invariant-loop-at
@@ -18,4 +14,3 @@ invariant-loop-at l =
 abbrev pub decreases-loop-at : goal.decreases-loop-at
 decreases-loop-at l =
     length l.chunk - l.at
-

@@ -1,11 +1,8 @@
 -- `clear` meets its contract. The invariant: the first i words are 0, and the others as lent. Assumes nothing.
-use mathlib.Core.List.{List, ◌++◌}
-use mathlib.Core.Path.{◌≡◌, refl, ap, ◌∙◌}
-use Prim.Native.Nat.{ℕ, ◌≤◌, ◌-◌}
-use native.Mathlib.Omega.{arith}
-use lib.ListN.{length, set, length-set, replicate, drop}
-use borrow.Author.Fill.{fill_none, fill_more}
-use borrow.Author.Rules.{rules}
+use mathlib.Core.List.{◌++◌}
+use mathlib.Core.Path.{◌≡◌}
+use Prim.Native.Nat.{◌≤◌, ◌-◌}
+use lib.ListN.{length, replicate, drop}
 use Rattle.board.proofs.fresh.clear.Given as goal
 
 abbrev pub invariant-loop-i : goal.invariant-loop-i

@@ -1,12 +1,8 @@
 -- `set_up` meets its contract: past the check, the words used are cleared; else nothing is written. Assumes nothing.
 use mathlib.Core.Path.{◌∙◌, sym}
-use Prim.Native.Nat.{◌≤◌}
 use native.Mathlib.Omega.{arith}
-use lib.ListN.{length}
 use Rattle.rules.proofs.Refusals.Served.{sizes_served}
 use Rattle.rules.specs.Entry as entry
-use Rattle.rules.specs.Bounds.{Sized}
-use Rattle.rules.specs.Sizes.{words_used}
 use Rattle.board.proofs.fresh.set_up.Goals as goal
 
 pub words_used-requires : goal.words_used-requires

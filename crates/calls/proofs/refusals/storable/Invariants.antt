@@ -1,15 +1,10 @@
 -- `storable` meets its contract. The invariant: the first i values may stand there. Assumes nothing.
-use mathlib.Core.Path.{◌∙◌, sym}
 use mathlib.Core.Bool.{◌&&◌, ◌||◌}
 use Prim.Native.Nat.{◌-◌}
-use native.Mathlib.Omega.{arith}
 use lib.Dec.{ltb, eqb}
 use lib.ListN.{get_or}
-use borrow.Author.Rules.{rules}
-use borrow.Author.Tests.{not-true, not-false}
 use Rattle.rules.specs.GoodForm as form
-use Rattle.rules.specs.Refusals as refusals
-use Rattle.rules.proofs.Trying.{Passed, none_yet, one_more_lem, one_fails, all_pass}
+use Rattle.rules.proofs.Trying.{Passed}
 use Rattle.calls.proofs.refusals.storable.Given as goal
 
 abbrev pub invariant-loop-i : goal.invariant-loop-i

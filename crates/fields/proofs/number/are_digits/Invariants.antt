@@ -1,10 +1,8 @@
 -- `are_digits` meets its contract. The invariant: all bytes are digits exactly if all from i on are. Assumes nothing.
-use Prim.Native.Nat.{◌-◌, ◌≤◌, ◌<◌}
-use mathlib.Core.Path.{◌≡◌, refl}
-use native.Mathlib.Omega.{arith}
+use Prim.Native.Nat.{◌-◌, ◌≤◌}
+use mathlib.Core.Path.{◌≡◌}
 use lib.ListN.{length, drop}
 use Rattle.fields.specs.Number.{all_digits}
-use Rattle.fields.proofs.Numbers.{digits_low, digits_high, digits_on, digits_end}
 use Rattle.fields.proofs.number.are_digits.Given as goal
 
 abbrev pub invariant-loop-i : goal.invariant-loop-i

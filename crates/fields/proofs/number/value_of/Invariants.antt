@@ -1,11 +1,9 @@
 -- `value_of` meets its contract. The invariant: the digits from i on, after the value so far, spell the whole. Assumes nothing.
 use Prim.Native.Nat.{◌-◌, ◌^◌, ◌≤◌, ◌<◌}
-use mathlib.Core.Path.{◌≡◌, refl, sym, ◌∙◌}
-use native.Mathlib.Omega.{arith}
+use mathlib.Core.Path.{◌≡◌}
 use mathlib.Core.Bool.{true}
-use lib.ListN.{length, drop, get_or}
+use lib.ListN.{length, drop}
 use Rattle.fields.specs.Number.{all_digits, value_from}
-use Rattle.fields.proofs.Numbers.{value_step, digits_at, digits_rest, digit_low, too_great, value_done}
 use Rattle.fields.proofs.number.value_of.Given as goal
 
 abbrev pub invariant-loop-i : goal.invariant-loop-i

@@ -1,11 +1,7 @@
 -- `blank_from` meets its contract. The invariant: the fields from `from` on are blank exactly if those from k on are. Assumes nothing.
 use Prim.Native.Nat.{◌-◌}
-use mathlib.Core.Path.{◌≡◌, refl, ap, sym, ◌∙◌}
-use native.Mathlib.Omega.{arith}
-use lib.ListN.{length}
+use mathlib.Core.Path.{◌≡◌}
 use Rattle.fields.specs.Blanks.{blank_from}
-use Rattle.fields.proofs.BlankFields.{blank_here, blank_not, blank_end}
-use Rattle.fields.proofs.FieldSpans.{span_bytes}
 use Rattle.fields.proofs.parts.blank_from.Given as goal
 
 abbrev pub invariant-loop-k : goal.invariant-loop-k

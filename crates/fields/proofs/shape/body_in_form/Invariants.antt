@@ -1,12 +1,8 @@
 -- `body_in_form` meets its contract. The invariant: what is found and what is left make the whole. Assumes nothing.
-use Prim.Native.Nat.{◌+◌, ◌-◌, ◌≤◌, ◌<◌}
-use mathlib.Core.Path.{◌≡◌, refl, sym, ◌∙◌}
-use native.Mathlib.Omega.{arith}
-use mathlib.Core.Logic.{⊎_elim}
-use mathlib.Core.Bool.{true, false}
+use Prim.Native.Nat.{◌+◌, ◌-◌, ◌≤◌}
+use mathlib.Core.Path.{◌≡◌}
 use lib.ListN.{length, drop}
 use Rattle.fields.specs.Form.{no_stray, commas}
-use Rattle.fields.proofs.Splits.{commas_comma, commas_other, commas_end, stray_here, stray_not, stray_end}
 use Rattle.fields.proofs.shape.body_in_form.Given as goal
 
 abbrev pub invariant-loop-i : goal.invariant-loop-i

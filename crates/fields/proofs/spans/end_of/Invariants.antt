@@ -1,11 +1,8 @@
 -- `end_of` meets its contract. The invariant: what is left of the part begins at i. Assumes nothing.
 use Prim.Native.Nat.{◌-◌}
-use mathlib.Core.Path.{◌≡◌, refl}
-use native.Mathlib.Omega.{arith}
-use borrow.Author.Rules.{rules}
+use mathlib.Core.Path.{◌≡◌}
 use lib.ListN.{length}
 use Rattle.fields.specs.Spans.{end_from}
-use Rattle.fields.proofs.FieldSpans.{comma_here, comma_later, comma_end}
 use Rattle.fields.proofs.spans.end_of.Given as goal
 
 abbrev pub invariant-loop-i : goal.invariant-loop-i

@@ -1,11 +1,8 @@
 -- `start_of` meets its contract. The invariant: the part asked for starts where part `left` of what begins at i does. Assumes nothing.
-use Prim.Native.Nat.{◌+◌, ◌-◌, ◌<◌}
-use mathlib.Core.Path.{◌≡◌, ap, ◌∙◌}
-use mathlib.Core.Logic.{⊎_elim}
-use native.Mathlib.Omega.{arith}
+use Prim.Native.Nat.{◌+◌, ◌-◌}
+use mathlib.Core.Path.{◌≡◌}
 use lib.ListN.{length, drop}
 use Rattle.fields.specs.Spans.{start_of}
-use Rattle.fields.proofs.FieldSpans.{start_zero, start_comma, start_other, start_end}
 use Rattle.fields.proofs.spans.start_of.Given as goal
 
 abbrev pub invariant-loop-i : goal.invariant-loop-i

@@ -1,16 +1,11 @@
 -- `headers_fit` meets its contract. The invariant: the first x headers name a process. Assumes nothing.
-use mathlib.Core.Path.{◌≡◌, ap, ◌∙◌, sym}
 use mathlib.Core.Bool.{Bool}
 use mathlib.Core.List.{List}
 use Prim.Native.Nat.{ℕ, ◌-◌}
-use native.Mathlib.Omega.{arith}
-use lib.ListN.{get_or}
-use borrow.Author.Rules.{rules}
-use borrow.Author.Tests.{not-true, not-false}
 use Rattle.rules.specs.GoodForm as form
 use Rattle.rules.specs.Sizes.{header_of}
 use Rattle.rules.specs.declared.Settings.{Settings}
-use Rattle.rules.proofs.Trying.{Passed, none_yet, one_more_lem, one_fails, all_pass}
+use Rattle.rules.proofs.Trying.{Passed}
 use Rattle.form.proofs.words.headers_fit.Given as goal
 
 abbrev fits : Settings → List ℕ → ℕ → Bool

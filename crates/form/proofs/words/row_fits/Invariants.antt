@@ -1,16 +1,11 @@
 -- `row_fits` meets its contract. The invariant: the first i announced values of the row fit. Assumes nothing.
-use mathlib.Core.Path.{◌≡◌, ap, ◌∙◌, sym}
 use mathlib.Core.Bool.{Bool}
 use mathlib.Core.List.{List}
 use Prim.Native.Nat.{ℕ, ◌-◌}
-use native.Mathlib.Omega.{arith}
-use lib.ListN.{get_or}
-use borrow.Author.Rules.{rules}
-use borrow.Author.Tests.{not-true, not-false}
 use Rattle.rules.specs.GoodForm as form
 use Rattle.rules.specs.Sizes.{announced_of}
 use Rattle.rules.specs.declared.Settings.{Settings}
-use Rattle.rules.proofs.Trying.{Passed, none_yet, one_more_lem, one_fails, all_pass}
+use Rattle.rules.proofs.Trying.{Passed}
 use Rattle.form.proofs.words.row_fits.Given as goal
 
 abbrev fits : Settings → ℕ → List ℕ → ℕ → Bool

@@ -1,10 +1,8 @@
 -- `is_word` meets its contract. The invariant: the two are the same exactly if what is left of them is. Assumes nothing.
 use Prim.Native.Nat.{◌-◌, ◌≤◌}
-use mathlib.Core.Path.{◌≡◌, refl, sym, ◌∙◌}
-use native.Mathlib.Omega.{arith}
+use mathlib.Core.Path.{◌≡◌}
 use lib.ListN.{length, drop}
 use Rattle.record.specs.Words.{same}
-use Rattle.record.proofs.SameBytes.{same_lengths, same_here, same_not, same_end}
 use Rattle.record.proofs.words.is_word.Given as goal
 
 abbrev pub invariant-loop-i : goal.invariant-loop-i

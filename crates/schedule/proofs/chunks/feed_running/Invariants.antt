@@ -1,19 +1,12 @@
 -- `feed_running` meets its contract. The invariant: what is left to feed gives what all gives, and the board is in order.
 -- The measure is what is left of the chunk. Assumes nothing.
-use native.Mathlib.Omega.{arith}
-use mathlib.Core.Path.{◌≡◌, refl, sym, ap, ◌∙◌, subst}
-use Prim.Native.Nat.{◌-◌, ◌≤◌, ◌<◌}
+use mathlib.Core.Path.{◌≡◌}
+use Prim.Native.Nat.{◌-◌, ◌≤◌}
 use lib.ListN.{length, drop}
-use lib.Seq.{length-take-le}
-use Rattle.rules.specs.Processes.{process_at}
-use Rattle.rules.specs.declared.Settings.{Settings}
 use Rattle.schedule.specs.Feeding.{feeding, feed_of}
 use Rattle.schedule.specs.Gathering.{line_length}
 use Rattle.answers.specs.Order.{InOrder}
-use Rattle.schedule.proofs.Feeding.{feed_full}
-use Rattle.answers.proofs.OneProcess.{all_sized}
-use Rattle.schedule.proofs.Progress.{progress, used_up, open_on, is_full_lem, room, as_running, running_ready, ended_ready, placed}
-use Rattle.schedule.proofs.RunningOn.{running, fed_running, feeds_as, Served, served, too_many, goes_on_lem}
+use Rattle.schedule.proofs.RunningOn.{running}
 use Rattle.schedule.proofs.chunks.feed_running.Given as goal
 
 abbrev pub invariant-loop-next : goal.invariant-loop-next
@@ -25,4 +18,3 @@ invariant-loop-next l =
 abbrev pub decreases-loop-next : goal.decreases-loop-next
 decreases-loop-next l =
     length l.chunk - l.next
-

@@ -1,11 +1,8 @@
 -- `gather` meets its contract. The invariant: gathering on from here gives what gathering all gives. Assumes nothing.
-use native.Mathlib.Omega.{arith}
-use Prim.Native.Nat.{◌≤◌, ◌<◌, ◌+◌, ◌-◌}
-use mathlib.Core.Bool.{true}
-use mathlib.Core.Path.{◌≡◌, ap, refl, sym, ◌∙◌}
-use lib.ListN.{length, drop, get_or}
-use Rattle.schedule.specs.Gathering.{Held, line_length, gather_of}
-use Rattle.schedule.proofs.Gathering.{gather_closed, gather_more, gather_end, put_byte, closes_by}
+use Prim.Native.Nat.{◌≤◌, ◌-◌}
+use mathlib.Core.Path.{◌≡◌}
+use lib.ListN.{length, drop}
+use Rattle.schedule.specs.Gathering.{line_length, gather_of}
 use Rattle.schedule.proofs.gather.gather.Given as goal
 
 abbrev pub invariant-loop-i : goal.invariant-loop-i
@@ -16,4 +13,3 @@ invariant-loop-i l =
 abbrev pub decreases-loop-i : goal.decreases-loop-i
 decreases-loop-i l =
     length l.chunk - l.i
-

@@ -1,10 +1,8 @@
 -- `put` puts its bytes one by one: what is left to put, put after what was, gives the same list at every turn. Assumes nothing.
-use mathlib.Core.Path.{◌≡◌, refl, sym, ◌∙◌}
-use Prim.Native.Nat.{◌≤◌, ◌+◌, ◌-◌, ◌<◌}
-use native.Mathlib.Omega.{arith}
-use lib.ListN.{length, drop, length-set}
+use mathlib.Core.Path.{◌≡◌}
+use Prim.Native.Nat.{◌≤◌, ◌+◌, ◌-◌}
+use lib.ListN.{length, drop}
 use lib.Seq.{sets}
-use Rattle.writing.proofs.Puts.{sets_step, sets_end}
 use Rattle.writing.proofs.bytes.put.Given as goal
 
 abbrev pub invariant-loop-i : goal.invariant-loop-i

@@ -1,10 +1,5 @@
 -- `digit_count` counts a digit a turn until one is left. Assumes nothing.
-use mathlib.Core.Path.{ap}
-use Prim.Native.Nat.{◌-◌}
-use native.Mathlib.Omega.{arith}
-use lib.ListN.{length}
-use Rattle.fields.proofs.Decimals.{decimal_short}
-use Rattle.writing.proofs.Counting.{Counted, counted_more}
+use Rattle.writing.proofs.Counting.{Counted}
 use Rattle.writing.proofs.decimal.digit_count.Given as goal
 
 abbrev pub invariant-loop-left : goal.invariant-loop-left

@@ -1,13 +1,11 @@
 -- `put_decimal` puts the last digit of what is left a turn, each in its place: the digits left to put, put before those
 -- that were, give the same list at every turn. Assumes nothing.
-use mathlib.Core.Path.{◌≡◌, refl, ap, sym, ◌∙◌}
-use mathlib.Core.List.{List}
-use Prim.Native.Nat.{ℕ, ◌≤◌, ◌+◌}
-use native.Mathlib.Omega.{arith}
-use lib.ListN.{length, length-set}
+use mathlib.Core.Path.{◌≡◌}
+use Prim.Native.Nat.{◌≤◌, ◌+◌}
+use lib.ListN.{length}
 use lib.Seq.{sets}
 use Rattle.fields.specs.Decimal.{decimal}
-use Rattle.writing.proofs.Digits.{last_digits, decimal_last, digit_put}
+use Rattle.writing.proofs.Digits.{last_digits}
 use Rattle.writing.proofs.decimal.put_decimal.Given as goal
 
 abbrev pub invariant-loop-i : goal.invariant-loop-i
