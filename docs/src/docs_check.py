@@ -16,10 +16,12 @@ SOURCES = [
     path
     for folder in ("crates", "docs/src", "examples", ".ci")
     for path in pathlib.Path(folder).rglob("*")
-    if path.is_file() and path.suffix in ("", ".rt", ".antt", ".rs", ".py", ".sh", ".csv")
+    if "out" not in path.parts and path.is_file() and path.suffix in ("", ".rt", ".antt", ".rs", ".py", ".sh", ".csv")
 ]
+# Where the prover refuses an edit: a goal that the kit names, and a place.
+REFUSED_AT = re.compile(r"\| `[^`]+`, \S+:\d+ \|$", re.M)
 # Names of other programs, and of the paper's figures.
-FOREIGN = {"rt", "rustc", "python3", "csv", "wc", "addr", "hdr", "newval", "pid", "retval"}
+FOREIGN = {"rt", "rustc", "python3", "csv", "wc", "axioms", "rattle_errno", "addr", "hdr", "newval", "pid", "retval"}
 
 
 def edits():
@@ -99,7 +101,7 @@ def main():
     for document in DOCUMENTS:
         text = document.read_text(encoding="utf-8")
         found += path_faults(document, text)
-        found += name_faults(document, text, words)
+        found += name_faults(document, REFUSED_AT.sub("|", text), words)
         found += edit_faults(document, text, known)
     print("\n".join(found) if found else f"{len(DOCUMENTS)} documents name what is there")
     sys.exit(1 if found else 0)

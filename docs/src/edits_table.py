@@ -1,8 +1,8 @@
 #!/usr/bin/env python3
-"""Write docs/EDITS.md: each must-fail edit, what it shows, and the fact at which the prover refuses it.
+"""Write docs/EDITS.md: edits_table.py LOG..
 
-Run at the repository's root after the gate, which leaves the prover's answers under target/must-fail, and then
-docs/src/more_edits.sh, which leaves them under target/more-edits. Where an answer is missing, docs/EDITS.md stays as it
+Each must-fail edit, what it shows, and the fact at which the prover refuses it. Run at the repository's root, on what
+`rt must-fail` with no name and docs/src/more_edits.sh wrote. Where an edit is in none of the logs, docs/EDITS.md stays as it
 is, standard error names the edits, and the status is 1.
 """
 import pathlib
@@ -17,8 +17,9 @@ The gate tries those of `must-fail`; `docs/src/more_edits.sh` tries those of `mo
 Made by `docs/src/edits_table.py`.
 """
 
-FIRST_ERROR = re.compile(r"^\S*?/must-fail/[^/]+/[^/]+/(\S+?):(\d+):\d+: error: `([^`]+)`", re.M)
-NOT_FOUND = re.compile(r"^fn (\S+): no proof: [^\n]*`search` does not close `([^`]+)`", re.M)
+REFUSED = re.compile(r"^rt: must-fail (\w+)/(\w+)\.edit: refused, as it must be: (.*)$", re.M)
+AT_A_PROOF = re.compile(r"(?:\./)?(\S+?):(\d+):\d+: error: `([^`]+)`")
+AT_THE_CODE = re.compile(r"note: (\S+?):(\d+):\d+: it is not proved that .*?\(`([^`]+)`\)")
 
 
 def shown(edit):
@@ -26,26 +27,12 @@ def shown(edit):
     return " ".join(line[1:].strip() for line in lines if line.startswith("#"))
 
 
-def refused_at(log):
-    text = log.read_text(encoding="utf-8")
-    # A function without a proof file has its proof searched for; the first error may then be a caller's.
-    not_found = NOT_FOUND.search(text)
-    if not_found:
-        function, need = not_found.groups()
-        return f"`{need}` of `{function}`, for which no proof is found"
-    first = FIRST_ERROR.search(text)
-    if first:
-        place, line, name = first.groups()
-        return f"`{name}`, {place}:{line}"
-    return None
-
-
-def answer_to(crate, edit):
-    for folder in ["target/must-fail", "target/more-edits"]:
-        log = pathlib.Path(folder) / crate / edit.stem / ".log"
-        if log.exists():
-            return refused_at(log)
-    return None
+def refused_at(said):
+    found = AT_A_PROOF.match(said) or AT_THE_CODE.match(said)
+    if not found:
+        return None
+    place, line, name = found.groups()
+    return f"`{name}`, {place}:{line}"
 
 
 def edits_of(crate):
@@ -59,8 +46,12 @@ def section(crate, answers):
 
 
 def main():
+    said = {}
+    for log in sys.argv[1:]:
+        for crate, name, text in REFUSED.findall(pathlib.Path(log).read_text(encoding="utf-8")):
+            said[crate, name] = refused_at(text)
     crates = sorted(path.name for path in pathlib.Path("crates").iterdir())
-    tried = {crate: {edit: answer_to(crate, edit) for edit in edits_of(crate)} for crate in crates}
+    tried = {crate: {edit: said.get((crate, edit.stem)) for edit in edits_of(crate)} for crate in crates}
     untold = [edit for answers in tried.values() for edit, answer in answers.items() if answer is None]
     if untold:
         for edit in untold:

@@ -1,24 +1,19 @@
 #!/bin/sh
 # more_edits.sh [CRATE ..]: tries the must-fail edits that the gate leaves out to save time, crates/NAME/more-edits; the
-# prover must refuse each. What it says of them is left under target/more-edits.
+# prover must refuse each, and each must find its text.
 set -eu
 cd "$(dirname "$0")/../.."
-root=$PWD
 scratch=$(mktemp -d)
 trap 'rm -rf "$scratch"' EXIT
-cp -R crates crates.txt "$scratch"
-# What is proved already need not be proved again.
-if [ -d target ]; then cp -R target "$scratch"; fi
+# Without what was proved here: the kit finds that by itself.
+tar -c --exclude=out crates crates.txt | tar -x -C "$scratch"
 cd "$scratch"
-rm -rf target/must-fail
 for crate in crates/*; do
     rm -rf "$crate/must-fail"
     if [ -d "$crate/more-edits" ]; then mv "$crate/more-edits" "$crate/must-fail"; fi
 done
 status=0
-rt must-fail "$@" || status=$?
-if [ -d target/must-fail ]; then
-    rm -rf "$root/target/more-edits"
-    cp -R target/must-fail "$root/target/more-edits"
-fi
+rt must-fail "$@" >said 2>&1 || status=$?
+cat said
+if grep -E 'BAD EDIT|NOT REFUSED' said >/dev/null; then status=1; fi
 exit $status

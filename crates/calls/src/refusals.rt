@@ -102,6 +102,7 @@ fn values_right(s: Settings, call: Call, values: Values) -> bool
 }
 
 // The first of 5 to 8 that holds.
+#[tactic(auto, unfolding(rules::specs::Refusals::call_check))]
 pub(crate) fn call_check(s: Settings, p: Process, call: Call, values: Values) -> Check
     requires { Sized s }
     ensures { result ≡ call_check s p call values }

@@ -77,7 +77,7 @@ fn emptied(written: usize, failed: bool) -> Output
     }
 }
 
-// A program has no exit status: what went wrong is told on standard error.
+// What went wrong is told on standard error; the exit status stays 0.
 pub fn warn(rt: HostRuntime, text: &[u8]) {
     let _ = rt.stderr().write_all(text);
 }

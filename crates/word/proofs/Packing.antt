@@ -31,8 +31,8 @@ told =
 pub packed_unpacks : (b tag value w : ℕ) → pack_rule b tag value ≡ Word w → unpack_rule b w ≡ Parts tag value
 packed_unpacks b tag value w = go (bits_fit b) (ltb tag (tag_limit b)) (ltb value (value_limit b)) refl
   where
-    go : (stands tag_Fits value_fits_lem : Bool) → ltb value (value_limit b) ≡ value_fits_lem
-        → cond stands (cond (tag_Fits && value_fits_lem) (Word (word b tag value)) (NotPacked ValueTooGreat)) (NotPacked SettingOutsideSizes)
+    go : (stands tag_fits value_fits : Bool) → ltb value (value_limit b) ≡ value_fits
+        → cond stands (cond (tag_fits && value_fits) (Word (word b tag value)) (NotPacked ValueTooGreat)) (NotPacked SettingOutsideSizes)
         ≡ Word w
         → cond stands (Parts (tag_of b w) (value_of b w)) (NotUnpacked SettingOutsideSizes) ≡ Parts tag value
     go true true true f e =
@@ -42,8 +42,8 @@ packed_unpacks b tag value w = go (bits_fit b) (ltb tag (tag_limit b)) (ltb valu
         let low : value_of b w ≡ value = ap (value_of b) (sym same) ∙ value_word b tag small in
         rw (high, low)
     go true true false f e = cc
-    go true false value_fits_lem f e = cc
-    go false tag_Fits value_fits_lem f e = cc
+    go true false value_fits f e = cc
+    go false tag_fits value_fits f e = cc
 
 -- packing an unpacked word's parts gives the word
 pub unpacked_packs : (b tag value w : ℕ) → w < 2 ^ 64 → unpack_rule b w ≡ Parts tag value → pack_rule b tag value ≡ Word w
@@ -58,9 +58,9 @@ unpacked_packs b tag value w h = go (leb 4 b) (leb b 48) refl
     go true true f e =
         let high : tag_of b w ≡ tag = cc in
         let low : value_of b w ≡ value = cc in
-        let tag_Fits = lt-ltb (tag_of b w) (tag_limit b) (tag_lt b (leb-true b 48 f) h) in
-        let value_fits_lem = lt-ltb (value_of b w) (value_limit b) (value_lt b w) in
-        rw (← high, ← low, tag_Fits, value_fits_lem, word_parts b w)
+        let tag_fits = lt-ltb (tag_of b w) (tag_limit b) (tag_lt b (leb-true b 48 f) h) in
+        let value_fits = lt-ltb (value_of b w) (value_limit b) (value_lt b w) in
+        rw (← high, ← low, tag_fits, value_fits, word_parts b w)
     go true false f e = cc
     go false most f e = cc
 

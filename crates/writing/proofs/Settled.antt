@@ -11,9 +11,9 @@ use Rattle.writing.proofs.decimal.put_decimal.Reads as put_decimal
 use Rattle.writing.proofs.decimal.put_number.Kinds as put_number_kinds
 use Rattle.writing.proofs.decimal.put_number.Reads as put_number
 
-one_put : {before : List ℕ} {at : ℕ} {bytes after other_After : List ℕ} {next other_next : ℕ}
-    → Put before at bytes after next → Put before at bytes other_After other_next
-    → ◌≡◌ {A = ℕ × List ℕ} (next, after) (other_next, other_After)
+one_put : {before : List ℕ} {at : ℕ} {bytes after other_after : List ℕ} {next other_next : ℕ}
+    → Put before at bytes after next → Put before at bytes other_after other_next
+    → ◌≡◌ {A = ℕ × List ℕ} (next, after) (other_next, other_after)
 one_put one other = λ i. (one_outcome one.place other.place i, one_outcome one.list other.list i)
 
 pub put_settles : Settles put_kinds.ps put_kinds.r (ℕ × List ℕ) (λ κs r (_, (out, _)). (r, out.now)) put.Learnt
