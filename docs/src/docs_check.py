@@ -54,7 +54,8 @@ def path_faults(document, text):
         if not (document.parent / target).exists():
             yield f"{document}: no {target}"
     for path in re.findall(r"(?:crates|docs|examples)/[\w./*-]*[\w*]", text):
-        if "NAME" not in path and not list(pathlib.Path(".").glob(path)):
+        # out/ holds what is built, and is not there in a fresh checkout
+        if "NAME" not in path and "/out/" not in path and not list(pathlib.Path(".").glob(path)):
             yield f"{document}: no {path}"
     for name in re.findall(r"`([\w/-]+\.(?:rt|antt|rs|py|sh))`", text):
         if not any(f"/{path}".endswith(f"/{name}") for path in SOURCES):

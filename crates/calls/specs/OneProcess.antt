@@ -1,4 +1,4 @@
--- What a begin makes of one process, of a board that can be served. What a step makes of it is the rules' processStep.
+-- What a begin makes of one process, of a board that can be served. What a step makes of it is the rules' process_step.
 use Rattle.std.specs.Prelude.{List, ℕ}
 use Rattle.rules.specs.Processes.{no_values}
 use Rattle.rules.specs.Refusals.{call_check}

@@ -1,6 +1,6 @@
 // Boards damaged in one thing, and their undamaged neighbours, handed to every entry point: 1,180 boards, of which 432 are
-// refused 1, 2 or 3. A line for each says which refusals it met. What must stand in `stdout` is made by
-// docs/src/damage_expected.py.
+// refused 1, 2 or 3. A line for each says which refusals it met; the first write that fails ends the run. What must stand in
+// `stdout` is made by docs/src/damage_expected.py.
 #![tactic(auto)]
 
 mod cases; // cases.rt: the families of damage

@@ -19,6 +19,7 @@ fn is_closing(byte: u8, cr: bool) -> bool
     if byte == b'\n' { cr } else { false }
 }
 
+#[tactic(auto, unfolding(crate::specs::Gathering::put))]
 fn keep_byte(line: &mut [u8], held: usize, byte: u8) -> usize
     requires { (length line.old ≡ line_length) × (held ≤ line_length) }
     ensures { (line.exit.now ≡ (put (record { line = line.entry.now; held = held; cr = false }) byte).line)
