@@ -56,6 +56,7 @@ fn clear(used: usize, mem: &mut [u64])
     }
 }
 
+#[tactic(auto, using(rules::proofs::Refusals::Served::sizes_served))]
 pub fn set_up(s: Settings, mem: &mut [u64]) -> SetUp
     ensures { ◌≡◌ {A = SetUp × List ℕ} (result, mem.new) (set_up_rule s mem.old) }
 {

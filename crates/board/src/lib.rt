@@ -47,6 +47,7 @@ fn put_back(board: Board, me: usize, moved: Moved) -> Answered
 }
 
 // Process me begins a call. The words are read for the checks.
+#[tactic(auto, using(rules::proofs::Refusals::Served::served))]
 pub fn begin(board: Board, me: usize, call: Call, values: Values, mem: &[u64]) -> Answered
     ensures { result ≡ begin_rule board me call values mem.now }
 {
@@ -63,6 +64,7 @@ pub fn begin(board: Board, me: usize, call: Call, values: Values, mem: &[u64]) -
 }
 
 // Process me takes a step: one access to a shared word.
+#[tactic(auto, using(rules::proofs::Refusals::Served::served))]
 pub fn step(board: Board, me: usize, mem: &mut [u64]) -> Answered
     ensures { ◌≡◌ {A = Answered × List ℕ} (result, mem.new) (step_rule board me mem.old) }
 {
@@ -79,6 +81,7 @@ pub fn step(board: Board, me: usize, mem: &mut [u64]) -> Answered
 }
 
 // The number of variables on which process me has a sequence open.
+#[tactic(auto, using(rules::proofs::Refusals::Served::served))]
 pub fn open_count(board: Board, me: usize, mem: &[u64]) -> OpenCount
     ensures { result ≡ open_count_rule board me mem.now }
 {

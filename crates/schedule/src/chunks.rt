@@ -108,6 +108,7 @@ pub(crate) fn feed_set_up(
 }
 
 // The board stays in a local, and each record takes one process out of it and puts it back.
+#[tactic(auto, using(answers::proofs::OneProcess::all_sized))]
 pub(crate) fn feed_running(
     session: Session,
     chunk: &[u8],

@@ -13,6 +13,7 @@ use crate::{MOST_RECORDS, Next, Session};
 use answers::{Stage, answer, slot};
 use record::{ScheduleRead, read_schedule};
 
+#[tactic(auto, using(answers::proofs::OneProcess::all_sized))]
 fn take_read(
     session: Session,
     read: ScheduleRead,

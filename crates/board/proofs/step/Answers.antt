@@ -1,34 +1,11 @@
--- `step` meets its contract: past the check, the one process steps and is laid back; else it is refused. Assumes
--- nothing.
+-- `step` meets its contract: past the check, the one process steps and is laid back; else it is refused. Assumes nothing.
 use mathlib.Core.Path.{ap, ◌∙◌, sym}
-use native.Mathlib.Omega.{arith}
 use Rattle.rules.specs.Figure4.{Step}
 use Rattle.rules.specs.Entry.{stepped}
 use Rattle.rules.specs.declared.Answered.{Answered}
 use Rattle.rules.proofs.Refusals.OneProcess.{step_served}
 use Rattle.rules.proofs.Refusals.Refusing.{step_refused_first}
-use Rattle.rules.proofs.Refusals.Served.{served}
 use Rattle.board.proofs.step.Goals as goal
-
-pub offset_bounds-board-me : goal.offset_bounds-board-me
-offset_bounds-board-me c =
-    let now = served c.args.board c.args.me c.args.mem.now (sym c.process_check-check.ensures ∙ c.in-Fine.is) in
-    omega arith
-
-pub bounds-board-me : goal.bounds-board-me
-bounds-board-me c =
-    let now = served c.args.board c.args.me c.args.mem.now (sym c.process_check-check.ensures ∙ c.in-Fine.is) in
-    omega arith
-
-pub process_step-moved-requires : goal.process_step-moved-requires
-process_step-moved-requires c =
-    let now = served c.args.board c.args.me c.args.mem.now (sym c.process_check-check.ensures ∙ c.in-Fine.is) in
-    (now.sizes, now.used, now.known, now.process)
-
-pub put_back-requires : goal.put_back-requires
-put_back-requires c =
-    let now = served c.args.board c.args.me c.args.mem.now (sym c.process_check-check.ensures ∙ c.in-Fine.is) in
-    omega arith
 
 pub returns-in-Fine : goal.returns-in-Fine
 returns-in-Fine c =

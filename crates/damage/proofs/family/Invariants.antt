@@ -1,11 +1,9 @@
--- `family` meets its contract. The invariant: k is at most the count. Assumes nothing.
+-- The invariant of `family`: k is at most the count.
 use Prim.Native.Nat.{◌≤◌, ◌-◌}
 use Rattle.damage.proofs.family.Given as goal
 
 abbrev pub invariant-loop-k : goal.invariant-loop-k
-invariant-loop-k l =
-    l.k ≤ l.count
+invariant-loop-k l = l.k ≤ l.count
 
 abbrev pub decreases-loop-k : goal.decreases-loop-k
-decreases-loop-k l =
-    l.count - l.k
+decreases-loop-k l = l.count - l.k

@@ -1,4 +1,4 @@
--- `new_word_lem` meets its contract: the next tag is a tag, so that the word can be made. Assumes nothing.
+-- `new_word` meets its contract: the next tag is a tag, so that the word can be made. Assumes nothing.
 use Prim.Native.Nat.{◌<◌}
 use borrow.Author.Rules.{rules}
 use Rattle.word.specs.Word.{tag_limit}

@@ -6,8 +6,7 @@ use Rattle.simulator.proofs.Points.{can_flush, room_free}
 use Rattle.simulator.proofs.end.Goals as goal
 
 pub make_room-room-requires : goal.make_room-room-requires
-make_room-room-requires c =
-    can_flush _ c.requires
+make_room-room-requires c = can_flush _ c.requires
 
 pub grown-requires : goal.grown-requires
 grown-requires c =

@@ -1,5 +1,4 @@
--- `read_all` meets its contract. The invariant: as many bytes are taken as were read. Each turn that goes on reads a byte at
--- least, so that the measure is what can still be counted. Assumes nothing.
+-- `read_all` meets its contract. Assumes nothing.
 use native.Mathlib.Omega.{arith}
 use mathlib.Core.Path.{refl, sym, ap}
 use Rattle.simulator.specs.declared.input.Input.{Input}

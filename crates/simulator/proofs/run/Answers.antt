@@ -16,8 +16,8 @@ read_all-read-requires c =
 pub returns : goal.returns
 returns c =
     let begun = c.start-begun.ensures in
-    let begins-here = begins _ c.args.line.now c.args.mem.now c.args.out.now _ _ _ begun.0 begun.1 c.requires.room
+    let begins_here = begins _ c.args.line.now c.args.mem.now c.args.out.now _ _ _ begun.0 begun.1 c.requires.room
     c.requires.words_clear c.begun-heading.ensures in
-    let unwritten-here = unwritten _ c.args.line.now c.args.mem.now c.args.out.now _ _ _ begun.0 begun.1 c.requires.room
+    let unwritten_here = unwritten _ c.args.line.now c.args.mem.now c.args.out.now _ _ _ begun.0 begun.1 c.requires.room
     c.requires.words_clear c.begun-heading.ensures in
-    runs _ _ _ begins-here unwritten-here _ _ c.read_all-read.ensures _ _ c.end-held.ensures
+    runs _ _ _ begins_here unwritten_here _ _ c.read_all-read.ensures _ _ c.end-held.ensures

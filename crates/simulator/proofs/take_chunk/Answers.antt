@@ -1,13 +1,11 @@
--- `take_chunk` meets its contract. The invariant: the bytes before `at` are taken. Each turn makes room and takes a byte at
--- least, so that the measure is what is left of the chunk. Assumes nothing.
+-- `take_chunk` meets its contract. Assumes nothing.
 use native.Mathlib.Omega.{arith}
 use mathlib.Core.Path.{refl}
 use Rattle.simulator.proofs.Points.{taken_none, can_flush, rows_put, forward, goes_on_lem}
 use Rattle.simulator.proofs.take_chunk.Goals as goal
 
 pub loop-at-init : goal.loop-at-init
-loop-at-init c =
-    (omega arith, refl, refl, refl, record { taken = taken_none _; stands = c.requires })
+loop-at-init c = (omega arith, refl, refl, refl, record { taken = taken_none _; stands = c.requires })
 
 pub make_room-room-requires : goal.make_room-room-requires
 make_room-room-requires c = can_flush _ c.loop-at.invariant.4.stands

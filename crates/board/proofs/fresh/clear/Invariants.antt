@@ -1,4 +1,4 @@
--- `clear` meets its contract. The invariant: the first i words are 0, and the others as lent. Assumes nothing.
+-- The invariant of `clear`: the first i words are 0, and the others as lent.
 use mathlib.Core.List.{◌++◌}
 use mathlib.Core.Path.{◌≡◌}
 use Prim.Native.Nat.{◌≤◌, ◌-◌}
@@ -10,5 +10,4 @@ invariant-loop-i l =
     (l.i ≤ l.used) × (length l.mem ≡ length l.initial.mem) × (l.mem ≡ replicate l.i 0 ++ drop l.i l.initial.mem)
 
 abbrev pub decreases-loop-i : goal.decreases-loop-i
-decreases-loop-i l =
-    l.used - l.i
+decreases-loop-i l = l.used - l.i

@@ -1,4 +1,4 @@
--- `all_blank` meets its contract. The invariant: the first i values are 0. Assumes nothing.
+-- `all_blank` meets its contract. Assumes nothing.
 use borrow.Author.Tests.{eq-eqb, ne_eqb}
 use Rattle.rules.specs.Refusals as refusals
 use Rattle.rules.proofs.Trying.{none_yet, one_more_lem, one_fails, all_pass}
@@ -12,8 +12,7 @@ unfolding refusals.all_blank
 returns-then-values-i-ne0 c = one_fails _ _ _ c.loop-i-test.true (ne_eqb _ _ c.if-values-i-ne0.true)
 
 pub loop-i-preserved : goal.loop-i-preserved
-loop-i-preserved c =
-    one_more_lem _ _ _ c.loop-i.invariant c.loop-i-test.true (eq-eqb _ _ c.if-values-i-ne0.false)
+loop-i-preserved c = one_more_lem _ _ _ c.loop-i.invariant c.loop-i-test.true (eq-eqb _ _ c.if-values-i-ne0.false)
 
 pub returns : goal.returns
 unfolding refusals.all_blank

@@ -1,4 +1,4 @@
--- `all_blank` meets its contract. The invariant: the first i values are 0. Assumes nothing.
+-- The invariant of `all_blank`: the first i values are 0.
 use Prim.Native.Nat.{◌-◌}
 use lib.Dec.{eqb}
 use lib.ListN.{get_or}
@@ -6,9 +6,7 @@ use Rattle.rules.proofs.Trying.{Passed}
 use Rattle.calls.proofs.refusals.all_blank.Given as goal
 
 abbrev pub invariant-loop-i : goal.invariant-loop-i
-invariant-loop-i l =
-    Passed (λ j. eqb (get_or l.values j 0) 0) 4 l.i
+invariant-loop-i l = Passed (λ j. eqb (get_or l.values j 0) 0) 4 l.i
 
 abbrev pub decreases-loop-i : goal.decreases-loop-i
-decreases-loop-i l =
-    4 - l.i
+decreases-loop-i l = 4 - l.i

@@ -1,4 +1,4 @@
--- `storable` meets its contract. The invariant: the first i values may stand there. Assumes nothing.
+-- `storable` meets its contract. Assumes nothing.
 use mathlib.Core.Path.{◌∙◌, sym}
 use Rattle.rules.specs.Refusals as refusals
 use Rattle.rules.proofs.Trying.{none_yet, one_more_lem, one_fails, all_pass}

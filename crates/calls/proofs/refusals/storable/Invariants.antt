@@ -1,4 +1,4 @@
--- `storable` meets its contract. The invariant: the first i values may stand there. Assumes nothing.
+-- The invariant of `storable`: the first i values may stand there.
 use mathlib.Core.Bool.{◌&&◌, ◌||◌}
 use Prim.Native.Nat.{◌-◌}
 use lib.Dec.{ltb, eqb}
@@ -12,5 +12,4 @@ invariant-loop-i l =
     Passed (λ j. form.value_fits l.s (get_or l.values j 0) && (ltb j l.s.w || eqb (get_or l.values j 0) 0)) 4 l.i
 
 abbrev pub decreases-loop-i : goal.decreases-loop-i
-decreases-loop-i l =
-    4 - l.i
+decreases-loop-i l = 4 - l.i

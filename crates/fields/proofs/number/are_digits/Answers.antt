@@ -1,4 +1,4 @@
--- `are_digits` meets its contract. The invariant: all bytes are digits exactly if all from i on are. Assumes nothing.
+-- `are_digits` meets its contract. Assumes nothing.
 use Prim.Native.Nat.{◌<◌}
 use native.Mathlib.Omega.{arith}
 use lib.ListN.{length}
@@ -24,5 +24,4 @@ loop-i-preserved c =
     (omega arith, cc (digits_on s c.loop-i.i h (omega arith) (omega arith)))
 
 pub returns : goal.returns
-returns c =
-    cc (digits_end c.args.bytes.now c.loop-i.i (omega arith))
+returns c = cc (digits_end c.args.bytes.now c.loop-i.i (omega arith))

@@ -1,4 +1,4 @@
--- `value_of` meets its contract. The invariant: the digits from i on, after the value so far, spell the whole. Assumes nothing.
+-- `value_of` meets its contract. Assumes nothing.
 use Prim.Native.Nat.{◌<◌}
 use mathlib.Core.Path.{sym, ◌∙◌}
 use native.Mathlib.Omega.{arith}
@@ -35,5 +35,4 @@ loop-i-preserved c =
     )
 
 pub returns : goal.returns
-returns c =
-    value_done c.args.digits.now c.loop-i.i c.loop-i.value (omega arith) (omega arith) c.loop-i.invariant.3
+returns c = value_done c.args.digits.now c.loop-i.i c.loop-i.value (omega arith) (omega arith) c.loop-i.invariant.3

@@ -1,4 +1,4 @@
--- `value_of` meets its contract. The invariant: the digits from i on, after the value so far, spell the whole. Assumes nothing.
+-- The invariant of `value_of`: the digits from i on, after the value so far, spell the whole.
 use Prim.Native.Nat.{◌-◌, ◌^◌, ◌≤◌, ◌<◌}
 use mathlib.Core.Path.{◌≡◌}
 use mathlib.Core.Bool.{true}
@@ -14,5 +14,4 @@ invariant-loop-i l =
     × (value_from l.value (drop l.i l.digits) ≡ value_from 0 l.digits)
 
 abbrev pub decreases-loop-i : goal.decreases-loop-i
-decreases-loop-i l =
-    length l.digits - l.i
+decreases-loop-i l = length l.digits - l.i

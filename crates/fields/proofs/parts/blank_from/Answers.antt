@@ -1,4 +1,4 @@
--- `blank_from` meets its contract. The invariant: the fields from `from` on are blank exactly if those from k on are. Assumes nothing.
+-- `blank_from` meets its contract. Assumes nothing.
 use mathlib.Core.Path.{ap, sym, ◌∙◌}
 use native.Mathlib.Omega.{arith}
 use lib.ListN.{length}
@@ -19,5 +19,4 @@ loop-k-preserved c =
     sym (blank_here s c.loop-k.k (omega arith) (sym (ap length told) ∙ c.if-part-ne0.false)) ∙ c.loop-k.invariant
 
 pub returns : goal.returns
-returns c =
-    sym (sym c.loop-k.invariant ∙ blank_end c.args.bytes.now c.loop-k.k (omega arith))
+returns c = sym (sym c.loop-k.invariant ∙ blank_end c.args.bytes.now c.loop-k.k (omega arith))

@@ -1,4 +1,4 @@
--- `body_in_form` meets its contract. The invariant: what is found and what is left make the whole. Assumes nothing.
+-- `body_in_form` meets its contract. Assumes nothing.
 use Prim.Native.Nat.{◌≤◌, ◌<◌}
 use mathlib.Core.Path.{◌≡◌, sym, ◌∙◌}
 use native.Mathlib.Omega.{arith}

@@ -1,4 +1,4 @@
--- `body_in_form` meets its contract. The invariant: what is found and what is left make the whole. Assumes nothing.
+-- The invariant of `body_in_form`: what is found and what is left make the whole.
 use Prim.Native.Nat.{◌+◌, ◌-◌, ◌≤◌}
 use mathlib.Core.Path.{◌≡◌}
 use lib.ListN.{length, drop}
@@ -13,5 +13,4 @@ invariant-loop-i l =
     × (l.found + commas (drop l.i l.inside) ≡ commas l.inside)
 
 abbrev pub decreases-loop-i : goal.decreases-loop-i
-decreases-loop-i l =
-    length l.inside - l.i
+decreases-loop-i l = length l.inside - l.i

@@ -1,4 +1,4 @@
--- `end_of` meets its contract. The invariant: what is left of the part begins at i. Assumes nothing.
+-- `end_of` meets its contract. Assumes nothing.
 use native.Mathlib.Omega.{arith}
 use borrow.Author.Rules.{rules}
 use Rattle.fields.proofs.FieldSpans.{comma_here, comma_later, comma_end}

@@ -1,4 +1,4 @@
--- `start_of` meets its contract. The invariant: the part asked for starts where part `left` of what begins at i does. Assumes nothing.
+-- `start_of` meets its contract. Assumes nothing.
 use Prim.Native.Nat.{◌+◌, ◌<◌}
 use mathlib.Core.Path.{ap, ◌∙◌}
 use native.Mathlib.Omega.{arith}
@@ -21,10 +21,13 @@ loop-i-preserved c =
     let some = c.if-left-eq0.false in
     let rest = start_of (drop (i + 1) s) in
     elim c.if-inside-i-eq44.branch [
-      | then-inside-i-eq44 w ↦ omega (arith, c.loop-i.invariant, start_comma s i h c.loop-i.left some w.if-inside-i-eq44.true, ap rest w.left-is)
-      | else-inside-i-eq44 w ↦ omega (arith, c.loop-i.invariant, start_other s i h c.loop-i.left some w.if-inside-i-eq44.false, ap rest w.left-is)
+      | then-inside-i-eq44 w ↦
+          let comma = start_comma s i h c.loop-i.left some w.if-inside-i-eq44.true in
+          omega (arith, c.loop-i.invariant, comma, ap rest w.left-is)
+      | else-inside-i-eq44 w ↦
+          let other = start_other s i h c.loop-i.left some w.if-inside-i-eq44.false in
+          omega (arith, c.loop-i.invariant, other, ap rest w.left-is)
     ]
 
 pub returns : goal.returns
-returns c =
-    omega (arith, c.loop-i.invariant, start_end c.args.inside.now c.loop-i.i (omega arith) c.loop-i.left)
+returns c = omega (arith, c.loop-i.invariant, start_end c.args.inside.now c.loop-i.i (omega arith) c.loop-i.left)

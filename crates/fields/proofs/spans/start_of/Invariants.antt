@@ -1,4 +1,4 @@
--- `start_of` meets its contract. The invariant: the part asked for starts where part `left` of what begins at i does. Assumes nothing.
+-- The invariant of `start_of`: the part asked for starts where part `left` of what begins at i does.
 use Prim.Native.Nat.{◌+◌, ◌-◌}
 use mathlib.Core.Path.{◌≡◌}
 use lib.ListN.{length, drop}
@@ -6,9 +6,7 @@ use Rattle.fields.specs.Spans.{start_of}
 use Rattle.fields.proofs.spans.start_of.Given as goal
 
 abbrev pub invariant-loop-i : goal.invariant-loop-i
-invariant-loop-i l =
-    l.i + start_of (drop l.i l.inside) l.left ≡ start_of l.inside l.k
+invariant-loop-i l = l.i + start_of (drop l.i l.inside) l.left ≡ start_of l.inside l.k
 
 abbrev pub decreases-loop-i : goal.decreases-loop-i
-decreases-loop-i l =
-    length l.inside - l.i
+decreases-loop-i l = length l.inside - l.i

@@ -1,4 +1,4 @@
--- `kept_tags_fit` meets its contract. The invariant: the first x kept tags are below 2^b. Assumes nothing.
+-- `kept_tags_fit` meets its contract. Assumes nothing.
 use mathlib.Core.Path.{sym}
 use borrow.Author.Tests.{le-ltb, lt-ltb}
 use Rattle.rules.proofs.Trying.{none_yet, one_more_lem, one_fails}
@@ -13,5 +13,4 @@ returns-then-keep-x c =
     rw (sym limit) (one_fails _ _ _ c.loop-x-test.true (le-ltb _ _ c.if-keep-x.true))
 
 pub loop-x-preserved : goal.loop-x-preserved
-loop-x-preserved c =
-    one_more_lem _ _ _ c.loop-x.invariant c.loop-x-test.true (lt-ltb _ _ c.if-keep-x.false)
+loop-x-preserved c = one_more_lem _ _ _ c.loop-x.invariant c.loop-x-test.true (lt-ltb _ _ c.if-keep-x.false)

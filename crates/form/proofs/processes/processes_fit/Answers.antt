@@ -1,4 +1,4 @@
--- `processes_fit` meets its contract. The invariant: the processes below me fit. Assumes nothing.
+-- `processes_fit` meets its contract. Assumes nothing.
 use mathlib.Core.Path.{◌∙◌, sym}
 use Rattle.rules.specs.GoodForm as form
 use Rattle.rules.proofs.Trying.{none_yet, one_more_lem, one_fails, all_pass}

@@ -1,4 +1,4 @@
--- `values_fit` meets its contract. The invariant: the first i values fit. Assumes nothing.
+-- `values_fit` meets its contract. Assumes nothing.
 use mathlib.Core.Path.{◌∙◌, sym}
 use Rattle.rules.specs.GoodForm as form
 use Rattle.rules.proofs.Trying.{none_yet, one_more_lem, one_fails, all_pass}

@@ -1,4 +1,4 @@
--- `headers_fit` meets its contract. The invariant: the first x headers name a process. Assumes nothing.
+-- `headers_fit` meets its contract. Assumes nothing.
 use mathlib.Core.Path.{◌≡◌, ap, ◌∙◌, sym}
 use mathlib.Core.Bool.{Bool}
 use mathlib.Core.List.{List}
@@ -20,11 +20,14 @@ tried s x words place answers = ap (λ (k : ℕ). form.names s (get_or words k 0
 
 pub returns-then-not-names : goal.returns-then-not-names
 unfolding form.headers_fit
-returns-then-not-names c = one_fails _ _ _ c.loop-x-test.true (tried c.args.s c.loop-x.x c.args.mem.now c.header_at-at.ensures.0 c.names.ensures ∙ c.if-not-names.true)
+returns-then-not-names c =
+    let told = tried c.args.s c.loop-x.x c.args.mem.now c.header_at-at.ensures.0 c.names.ensures in
+    one_fails _ _ _ c.loop-x-test.true (told ∙ c.if-not-names.true)
 
 pub loop-x-preserved : goal.loop-x-preserved
 loop-x-preserved c =
-    one_more_lem _ _ _ c.loop-x.invariant c.loop-x-test.true (tried c.args.s c.loop-x.x c.args.mem.now c.header_at-at.ensures.0 c.names.ensures ∙ c.if-not-names.false)
+    let told = tried c.args.s c.loop-x.x c.args.mem.now c.header_at-at.ensures.0 c.names.ensures in
+    one_more_lem _ _ _ c.loop-x.invariant c.loop-x-test.true (told ∙ c.if-not-names.false)
 
 pub returns : goal.returns
 unfolding form.headers_fit

@@ -1,4 +1,4 @@
--- `headers_fit` meets its contract. The invariant: the first x headers name a process. Assumes nothing.
+-- The invariant of `headers_fit`: the first x headers name a process.
 use mathlib.Core.Bool.{Bool}
 use mathlib.Core.List.{List}
 use Prim.Native.Nat.{ℕ, ◌-◌}
@@ -12,9 +12,7 @@ abbrev fits : Settings → List ℕ → ℕ → Bool
 fits s words x = form.names s (header_of s x words)
 
 abbrev pub invariant-loop-x : goal.invariant-loop-x
-invariant-loop-x l =
-    Passed (fits l.s l.mem) l.t l.x
+invariant-loop-x l = Passed (fits l.s l.mem) l.t l.x
 
 abbrev pub decreases-loop-x : goal.decreases-loop-x
-decreases-loop-x l =
-    l.t - l.x
+decreases-loop-x l = l.t - l.x

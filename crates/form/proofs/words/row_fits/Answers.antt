@@ -1,4 +1,4 @@
--- `row_fits` meets its contract. The invariant: the first i announced values of the row fit. Assumes nothing.
+-- `row_fits` meets its contract. Assumes nothing.
 use mathlib.Core.Path.{◌≡◌, ap, ◌∙◌, sym}
 use mathlib.Core.Bool.{Bool}
 use mathlib.Core.List.{List}
@@ -20,11 +20,14 @@ tried s p i words place answers = ap (λ (k : ℕ). form.value_fits s (get_or wo
 
 pub returns-then-not-value_fits : goal.returns-then-not-value_fits
 unfolding form.row_fits
-returns-then-not-value_fits c = one_fails _ _ _ c.loop-i-test.true (tried c.args.s c.args.p c.loop-i.i c.args.mem.now c.announce_at-at.ensures.0 c.value_fits.ensures ∙ c.if-not-value_fits.true)
+returns-then-not-value_fits c =
+    let told = tried c.args.s c.args.p c.loop-i.i c.args.mem.now c.announce_at-at.ensures.0 c.value_fits.ensures in
+    one_fails _ _ _ c.loop-i-test.true (told ∙ c.if-not-value_fits.true)
 
 pub loop-i-preserved : goal.loop-i-preserved
 loop-i-preserved c =
-    one_more_lem _ _ _ c.loop-i.invariant c.loop-i-test.true (tried c.args.s c.args.p c.loop-i.i c.args.mem.now c.announce_at-at.ensures.0 c.value_fits.ensures ∙ c.if-not-value_fits.false)
+    let told = tried c.args.s c.args.p c.loop-i.i c.args.mem.now c.announce_at-at.ensures.0 c.value_fits.ensures in
+    one_more_lem _ _ _ c.loop-i.invariant c.loop-i-test.true (told ∙ c.if-not-value_fits.false)
 
 pub returns : goal.returns
 unfolding form.row_fits

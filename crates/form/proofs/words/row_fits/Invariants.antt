@@ -1,4 +1,4 @@
--- `row_fits` meets its contract. The invariant: the first i announced values of the row fit. Assumes nothing.
+-- The invariant of `row_fits`: the first i announced values of the row fit.
 use mathlib.Core.Bool.{Bool}
 use mathlib.Core.List.{List}
 use Prim.Native.Nat.{ℕ, ◌-◌}
@@ -12,9 +12,7 @@ abbrev fits : Settings → ℕ → List ℕ → ℕ → Bool
 fits s p words i = form.value_fits s (announced_of s p i words)
 
 abbrev pub invariant-loop-i : goal.invariant-loop-i
-invariant-loop-i l =
-    Passed (fits l.s l.p l.mem) l.w l.i
+invariant-loop-i l = Passed (fits l.s l.p l.mem) l.w l.i
 
 abbrev pub decreases-loop-i : goal.decreases-loop-i
-decreases-loop-i l =
-    l.w - l.i
+decreases-loop-i l = l.w - l.i

@@ -1,4 +1,4 @@
--- `rows_fit` meets its contract. The invariant: the rows of the first p processes fit. Assumes nothing.
+-- `rows_fit` meets its contract. Assumes nothing.
 use mathlib.Core.Path.{◌∙◌, sym}
 use Rattle.rules.specs.GoodForm as form
 use Rattle.rules.proofs.Trying.{none_yet, one_more_lem, one_fails, all_pass}

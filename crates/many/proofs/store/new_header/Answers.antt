@@ -1,5 +1,5 @@
--- `new_header` meets its contract: the next tag is a tag and the own number a value, so that the word can be made.
--- Assumes nothing.
+-- `new_header` meets its contract: the next tag is a tag and the own number a value, so that the word can be made. Assumes
+-- nothing.
 use Prim.Native.Nat.{◌<◌}
 use borrow.Author.Rules.{rules}
 use Rattle.word.proofs.Laws.{tag_lt, next_lt}

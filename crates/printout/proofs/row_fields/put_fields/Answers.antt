@@ -8,20 +8,16 @@ pub put_decimal-at_process-requires : goal.put_decimal-at_process-requires
 put_decimal-at_process-requires c = omega (arith, length_row c.args.row)
 
 pub put_who-at_answer-requires : goal.put_who-at_answer-requires
-put_who-at_answer-requires c =
-    omega (arith, c, length_row c.args.row)
+put_who-at_answer-requires c = omega (arith, length_row c.args.row)
 
 pub put_answer-at_open-requires : goal.put_answer-at_open-requires
-put_answer-at_open-requires c =
-    omega (arith, c, length_row c.args.row)
+put_answer-at_open-requires c = omega (arith, length_row c.args.row)
 
 pub put_open-at_v0-requires : goal.put_open-at_v0-requires
-put_open-at_v0-requires c =
-    omega (arith, c, c, length_row c.args.row)
+put_open-at_v0-requires c = omega (arith, length_row c.args.row)
 
 pub put_numbers-requires : goal.put_numbers-requires
-put_numbers-requires c =
-    omega (arith, c, c, c, length_row c.args.row)
+put_numbers-requires c = omega (arith, length_row c.args.row)
 
 pub returns : goal.returns
 returns c =

@@ -3,8 +3,7 @@ use Rattle.printout.proofs.Rows.{filled, blank}
 use Rattle.printout.proofs.value_fields.put_value.Goals as goal
 
 pub put_number-requires : goal.put_number-requires
-put_number-requires c =
-    rw (filled c.args.k c.args.numbers.now c.if-k-numbers.true) at c.requires
+put_number-requires c = rw (filled c.args.k c.args.numbers.now c.if-k-numbers.true) at c.requires
 
 pub returns-then-k-numbers : goal.returns-then-k-numbers
 returns-then-k-numbers c =

@@ -20,13 +20,13 @@ unfolding schedule_of
 returns-in_default-known c =
     let formed = sym c.in_form.ensures ∙ c.if-not-in_form.false in
     let process = sym c.number_at-number.ensures ∙ c.in-Value.is in
-    let act-read = sym (c.read_act-known.ensures ∙ ap act_of (c.field.ensures.bytes ∙ span_bytes _ _)) ∙ c.in_default-known.is in
-    c.refused-in_default-known.ensures ∙ rw (formed, process, act-read)
+    let act_read = sym (c.read_act-known.ensures ∙ ap act_of (c.field.ensures.bytes ∙ span_bytes _ _)) ∙ c.in_default-known.is in
+    c.refused-in_default-known.ensures ∙ rw (formed, process, act_read)
 
 pub returns : goal.returns
 unfolding schedule_of
 returns c =
     let formed = sym c.in_form.ensures ∙ c.if-not-in_form.false in
     let process = sym c.number_at-number.ensures ∙ c.in-Value.is in
-    let act-read = sym (c.read_act-known.ensures ∙ ap act_of (c.field.ensures.bytes ∙ span_bytes _ _)) ∙ c.in-Known.is in
-    c.read_rest.ensures ∙ rw (formed, process, act-read)
+    let act_read = sym (c.read_act-known.ensures ∙ ap act_of (c.field.ensures.bytes ∙ span_bytes _ _)) ∙ c.in-Known.is in
+    c.read_rest.ensures ∙ rw (formed, process, act_read)

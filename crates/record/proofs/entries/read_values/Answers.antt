@@ -1,4 +1,4 @@
--- `read_values` meets its contract. The invariant: the first i values are in form and in their places. Assumes nothing.
+-- `read_values` meets its contract. Assumes nothing.
 use Prim.Native.Nat.{◌+◌}
 use mathlib.Core.Path.{◌≡◌, refl, sym, ◌∙◌}
 use native.Mathlib.Omega.{arith}

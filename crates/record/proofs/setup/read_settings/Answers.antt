@@ -13,9 +13,9 @@ pub returns : goal.returns
 unfolding settings_of
 returns c =
     let formed = sym c.in_form.ensures ∙ c.if-not-in_form.false in
-    let kind-read = c.read_kind-kind.ensures ∙ ap kind_of (c.field.ensures.bytes ∙ span_bytes _ _) in
-    let t-read = c.number_at-t.ensures in
-    let b-read = c.number_at-b.ensures in
-    let w-read = c.number_at-w.ensures in
-    rw (formed, ← c.number_at-n.ensures, ← kind-read, ← t-read, ← b-read, ← w-read, ← c.blank_from-blank.ensures)
+    let kind_read = c.read_kind-kind.ensures ∙ ap kind_of (c.field.ensures.bytes ∙ span_bytes _ _) in
+    let t_read = c.number_at-t.ensures in
+    let b_read = c.number_at-b.ensures in
+    let w_read = c.number_at-w.ensures in
+    rw (formed, ← c.number_at-n.ensures, ← kind_read, ← t_read, ← b_read, ← w_read, ← c.blank_from-blank.ensures)
     c.settings_from.ensures

@@ -1,4 +1,4 @@
--- `is_word` meets its contract. The invariant: the two are the same exactly if what is left of them is. Assumes nothing.
+-- `is_word` meets its contract. Assumes nothing.
 use mathlib.Core.Path.{sym, ◌∙◌}
 use native.Mathlib.Omega.{arith}
 use Rattle.record.proofs.SameBytes.{same_lengths, same_here, same_not, same_end}

@@ -1,4 +1,4 @@
--- `is_word` meets its contract. The invariant: the two are the same exactly if what is left of them is. Assumes nothing.
+-- The invariant of `is_word`: the two are the same exactly if what is left of them is.
 use Prim.Native.Nat.{◌-◌, ◌≤◌}
 use mathlib.Core.Path.{◌≡◌}
 use lib.ListN.{length, drop}
@@ -10,5 +10,4 @@ invariant-loop-i l =
     (l.i ≤ length l.word) × (length l.bytes ≡ length l.word) × (same (drop l.i l.bytes) (drop l.i l.word) ≡ same l.bytes l.word)
 
 abbrev pub decreases-loop-i : goal.decreases-loop-i
-decreases-loop-i l =
-    length l.word - l.i
+decreases-loop-i l = length l.word - l.i

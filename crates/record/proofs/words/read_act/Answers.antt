@@ -5,8 +5,7 @@ use Rattle.record.proofs.words.read_act.Goals as goal
 
 pub returns-then-is_word : goal.returns-then-is_word
 unfolding act_of
-returns-then-is_word c =
-    rw (sym c.is_word.ensures ∙ c.if-is_word.true)
+returns-then-is_word c = rw (sym c.is_word.ensures ∙ c.if-is_word.true)
 
 pub returns-then-is_word-2 : goal.returns-then-is_word-2
 unfolding act_of
@@ -18,22 +17,22 @@ pub returns-then-is_word-3 : goal.returns-then-is_word-3
 unfolding act_of
 returns-then-is_word-3 c =
     let not_first = sym c.is_word.ensures ∙ c.if-is_word.false in
-    let not-second = sym c.is_word-2.ensures ∙ c.if-is_word-2.false in
-    rw (not_first, not-second, sym c.is_word-3.ensures ∙ c.if-is_word-3.true)
+    let not_second = sym c.is_word-2.ensures ∙ c.if-is_word-2.false in
+    rw (not_first, not_second, sym c.is_word-3.ensures ∙ c.if-is_word-3.true)
 
 pub returns-then-is_word-4 : goal.returns-then-is_word-4
 unfolding act_of
 returns-then-is_word-4 c =
     let not_first = sym c.is_word.ensures ∙ c.if-is_word.false in
-    let not-second = sym c.is_word-2.ensures ∙ c.if-is_word-2.false in
+    let not_second = sym c.is_word-2.ensures ∙ c.if-is_word-2.false in
     let not_third = sym c.is_word-3.ensures ∙ c.if-is_word-3.false in
-    rw (not_first, not-second, not_third, sym c.is_word-4.ensures ∙ c.if-is_word-4.true)
+    rw (not_first, not_second, not_third, sym c.is_word-4.ensures ∙ c.if-is_word-4.true)
 
 pub returns : goal.returns
 unfolding act_of
 returns c =
     let not_first = sym c.is_word.ensures ∙ c.if-is_word.false in
-    let not-second = sym c.is_word-2.ensures ∙ c.if-is_word-2.false in
+    let not_second = sym c.is_word-2.ensures ∙ c.if-is_word-2.false in
     let not_third = sym c.is_word-3.ensures ∙ c.if-is_word-3.false in
-    let not-fourth = sym c.is_word-4.ensures ∙ c.if-is_word-4.false in
-    rw (not_first, not-second, not_third, not-fourth)
+    let not_fourth = sym c.is_word-4.ensures ∙ c.if-is_word-4.false in
+    rw (not_first, not_second, not_third, not_fourth)

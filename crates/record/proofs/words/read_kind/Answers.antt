@@ -5,8 +5,7 @@ use Rattle.record.proofs.words.read_kind.Goals as goal
 
 pub returns-then-is_word : goal.returns-then-is_word
 unfolding kind_of
-returns-then-is_word c =
-    rw (sym c.is_word.ensures ∙ c.if-is_word.true)
+returns-then-is_word c = rw (sym c.is_word.ensures ∙ c.if-is_word.true)
 
 pub returns-then-is_word-2 : goal.returns-then-is_word-2
 unfolding kind_of
@@ -18,5 +17,5 @@ pub returns : goal.returns
 unfolding kind_of
 returns c =
     let not_first = sym c.is_word.ensures ∙ c.if-is_word.false in
-    let not-second = sym c.is_word-2.ensures ∙ c.if-is_word-2.false in
-    rw (not_first, not-second)
+    let not_second = sym c.is_word-2.ensures ∙ c.if-is_word-2.false in
+    rw (not_first, not_second)

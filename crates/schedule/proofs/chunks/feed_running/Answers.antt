@@ -1,5 +1,4 @@
--- `feed_running` meets its contract. The invariant: what is left to feed gives what all gives, and the board is in order.
--- The measure is what is left of the chunk. Assumes nothing.
+-- `feed_running` meets its contract. Assumes nothing.
 use native.Mathlib.Omega.{arith}
 use mathlib.Core.Path.{sym, ap, ◌∙◌, subst}
 use Prim.Native.Nat.{◌<◌}
@@ -8,7 +7,6 @@ use Rattle.rules.specs.Processes.{process_at}
 use Rattle.rules.specs.declared.Settings.{Settings}
 use Rattle.schedule.specs.Feeding.{feeding}
 use Rattle.schedule.proofs.Feeding.{feed_full}
-use Rattle.answers.proofs.OneProcess.{all_sized}
 use Rattle.schedule.proofs.Progress.{progress, used_up, open_on, is_full_lem, room, as_running, running_ready, ended_ready, placed}
 use Rattle.schedule.proofs.RunningOn.{running, fed_running, feeds_as, Served, served, too_many, goes_on_lem}
 use Rattle.schedule.proofs.chunks.feed_running.Goals as goal
@@ -42,22 +40,6 @@ returns-then-count-ge-MOST_RECORDS c =
       within = omega (arith, gathered.within, over.1);
     }
 
-pub slot-me-requires : goal.slot-me-requires
-slot-me-requires c =
-    let z = all_sized c.loop-next.board c.loop-next.mem c.loop-next.invariant.1 in
-    omega (arith, z.n_least, ap (λ (z : Settings). z.n) c.loop-next.invariant.2)
-
-pub offset_bounds-board-me : goal.offset_bounds-board-me
-offset_bounds-board-me c =
-    let z = all_sized c.loop-next.board c.loop-next.mem c.loop-next.invariant.1 in
-    let l : c.slot-me.result < 16 = omega (arith, c.slot-me.ensures.1, z.n_most, ap (λ (z : Settings). z.n) c.loop-next.invariant.2) in
-    record { fits = omega arith }
-
-pub bounds-board-me : goal.bounds-board-me
-bounds-board-me c =
-    let z = all_sized c.loop-next.board c.loop-next.mem c.loop-next.invariant.1 in
-    omega (arith, c.slot-me.ensures.1, z.n_most, ap (λ (z : Settings). z.n) c.loop-next.invariant.2)
-
 pub answer-taken-requires : goal.answer-taken-requires
 answer-taken-requires c =
     let loop = c.loop-next in
@@ -66,17 +48,6 @@ answer-taken-requires c =
     let k = served loop.board loop.mem loop.invariant.1 me mine in
     let j = subst (λ (z : Settings). Served z (process_at loop.board me) loop.mem) loop.invariant.2 k in
     (j.sizes, j.room, j.process, j.clean, room _ _ c.is_full.ensures c.if-is_full.false)
-
-pub offset_bounds-board-me-then-found : goal.offset_bounds-board-me-then-found
-offset_bounds-board-me-then-found c =
-    let z = all_sized c.loop-next.board c.loop-next.mem c.loop-next.invariant.1 in
-    let l : c.slot-me.result < 16 = omega (arith, c.slot-me.ensures.1, z.n_most, ap (λ (z : Settings). z.n) c.loop-next.invariant.2) in
-    record { fits = omega arith }
-
-pub bounds-board-me-then-found : goal.bounds-board-me-then-found
-bounds-board-me-then-found c =
-    let z = all_sized c.loop-next.board c.loop-next.mem c.loop-next.invariant.1 in
-    omega (arith, c.slot-me.ensures.1, z.n_most, ap (λ (z : Settings). z.n) c.loop-next.invariant.2)
 
 pub loop-next-smaller-then-found : goal.loop-next-smaller-then-found
 loop-next-smaller-then-found c =

@@ -1,5 +1,5 @@
--- `feed_running` meets its contract. The invariant: what is left to feed gives what all gives, and the board is in order.
--- The measure is what is left of the chunk. Assumes nothing.
+-- The invariant of `feed_running`: what is left to feed gives what all gives, and the board is in order. The measure is what
+-- is left of the chunk.
 use mathlib.Core.Path.{◌≡◌}
 use Prim.Native.Nat.{◌-◌, ◌≤◌}
 use lib.ListN.{length, drop}
@@ -11,10 +11,18 @@ use Rattle.schedule.proofs.chunks.feed_running.Given as goal
 
 abbrev pub invariant-loop-next : goal.invariant-loop-next
 invariant-loop-next l =
-    (l.next ≤ length l.chunk) × InOrder l.board l.mem × (l.board.settings ≡ l.s) × (l.held ≤ line_length) × (length l.line ≡ line_length)
-    × (length l.line ≡ length l.initial.line) × (length l.mem ≡ length l.initial.mem) × (length l.out ≡ length l.initial.out)
-    × (feed_of (feeding (running l.board l.count l.held l.cr) l.line l.mem l.out l.size) (drop l.next l.chunk) ≡ feed_of (feeding (running l.initial.board l.initial.count l.initial.held l.initial.cr) l.initial.line l.initial.mem l.initial.out l.len) (drop l.at l.chunk))
+    (l.next ≤ length l.chunk)
+    × InOrder l.board l.mem
+    × (l.board.settings ≡ l.s)
+    × (l.held ≤ line_length)
+    × (length l.line ≡ line_length)
+    × (length l.line ≡ length l.initial.line)
+    × (length l.mem ≡ length l.initial.mem)
+    × (length l.out ≡ length l.initial.out)
+    × (feed_of (feeding (running l.board l.count l.held l.cr) l.line l.mem l.out l.size) (drop l.next l.chunk)
+    ≡ feed_of
+    (feeding (running l.initial.board l.initial.count l.initial.held l.initial.cr) l.initial.line l.initial.mem l.initial.out l.len)
+    (drop l.at l.chunk))
 
 abbrev pub decreases-loop-next : goal.decreases-loop-next
-decreases-loop-next l =
-    length l.chunk - l.next
+decreases-loop-next l = length l.chunk - l.next

@@ -1,4 +1,4 @@
--- `gather` meets its contract. The invariant: gathering on from here gives what gathering all gives. Assumes nothing.
+-- `gather` meets its contract. Assumes nothing.
 use native.Mathlib.Omega.{arith}
 use Prim.Native.Nat.{◌≤◌, ◌<◌, ◌+◌}
 use mathlib.Core.Bool.{true}
@@ -43,4 +43,9 @@ returns c =
     let s = c.args.chunk.now in
     let h : Held = record { line = c.loop-i.line; held = c.loop-i.kept; cr = c.loop-i.last } in
     let l : length s ≤ c.loop-i.i = omega arith in
-    record { gathered = sym (gather_end h s c.loop-i.i l) ∙ c.loop-i.invariant.4; kept = omega arith; within = omega arith; long = omega arith }
+    record {
+      gathered = sym (gather_end h s c.loop-i.i l) ∙ c.loop-i.invariant.4;
+      kept = omega arith;
+      within = omega arith;
+      long = omega arith;
+    }

@@ -13,8 +13,7 @@ overflow_mul-result c =
     Fits-le (le-add_right _ _) (fit c.args.self.bits c.requires.1 c.requires.2 c.requires.3 c.value_limit.ensures)
 
 pub overflow_add-result : goal.overflow_add-result
-overflow_add-result c =
-    fit c.args.self.bits c.requires.1 c.requires.2 c.requires.3 c.value_limit.ensures
+overflow_add-result c = fit c.args.self.bits c.requires.1 c.requires.2 c.requires.3 c.value_limit.ensures
 
 pub returns : goal.returns
 unfolding word

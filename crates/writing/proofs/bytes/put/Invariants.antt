@@ -1,4 +1,4 @@
--- `put` puts its bytes one by one: what is left to put, put after what was, gives the same list at every turn. Assumes nothing.
+-- `put` puts its bytes one by one: what is left to put, put after what was, gives the same list at every turn.
 use mathlib.Core.Path.{◌≡◌}
 use Prim.Native.Nat.{◌≤◌, ◌+◌, ◌-◌}
 use lib.ListN.{length, drop}
@@ -13,5 +13,4 @@ invariant-loop-i l =
     × (sets l.out (l.at + l.i) (drop l.i l.bytes) ≡ sets l.initial.out l.at l.bytes)
 
 abbrev pub decreases-loop-i : goal.decreases-loop-i
-decreases-loop-i l =
-    length l.bytes - l.i
+decreases-loop-i l = length l.bytes - l.i

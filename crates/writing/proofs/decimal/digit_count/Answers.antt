@@ -1,4 +1,4 @@
--- `digit_count` counts a digit a turn until one is left. Assumes nothing.
+-- `digit_count` meets its contract. Assumes nothing.
 use mathlib.Core.Path.{ap}
 use Prim.Native.Nat.{◌-◌}
 use native.Mathlib.Omega.{arith}

@@ -1,5 +1,4 @@
--- `put_decimal` puts the last digit of what is left a turn, each in its place: the digits left to put, put before those
--- that were, give the same list at every turn. Assumes nothing.
+-- `put_decimal` meets its contract. Assumes nothing.
 use mathlib.Core.Path.{refl, ap, sym, ◌∙◌}
 use mathlib.Core.List.{List}
 use Prim.Native.Nat.{ℕ}

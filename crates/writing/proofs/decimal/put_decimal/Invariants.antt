@@ -1,5 +1,5 @@
--- `put_decimal` puts the last digit of what is left a turn, each in its place: the digits left to put, put before those
--- that were, give the same list at every turn. Assumes nothing.
+-- `put_decimal` puts the last digit of what is left a turn, each in its place: the digits left to put, put before those that
+-- were, give the same list at every turn.
 use mathlib.Core.Path.{◌≡◌}
 use Prim.Native.Nat.{◌≤◌, ◌+◌}
 use lib.ListN.{length}
@@ -17,5 +17,4 @@ invariant-loop-i l =
     × (sets l.out l.at (last_digits l.i l.left) ≡ sets l.initial.out l.at (decimal l.x))
 
 abbrev pub decreases-loop-i : goal.decreases-loop-i
-decreases-loop-i l =
-    l.i
+decreases-loop-i l = l.i
