@@ -1,7 +1,7 @@
 -- What specs/Statements.antt states, proved: each from the lemma that shows it. Assumes nothing.
 use mathlib.Core.Path.{ap}
 use Rattle.rules.specs.Statements.{RefusalsLeaveAll, RefusedExactly, BlankRefused, GoodFormKept, OnesCounted}
-use Rattle.rules.specs.Types.{Answered}
+use Rattle.rules.specs.Types.{Answered, Board}
 use Rattle.rules.proofs.GoodForm.Keeps.{begin_keeps, step_keeps}
 use Rattle.rules.proofs.GoodForm.Runs.{always_in_form}
 use Rattle.rules.proofs.Refusals.Refusing as refusing
@@ -21,11 +21,11 @@ refused_exactly =
     record {
       set_up = λ s words r. (
         refusing.set_up_refuses s words r,
-        λ e. ap (λ a. a.0.start) (refusing.set_up_refused_lem s words r e),
+        λ e. ap (λ a. a.0) (refusing.set_up_refused_lem s words r e),
       );
       begin = λ board me call values words r. (
         refusing.begin_refuses board me call values words r,
-        λ e. ap (λ (a : Answered). a.answer) (refusing.begin_refused board me call values words r e),
+        λ e. ap (λ (a : Answered Board). a.answer) (refusing.begin_refused board me call values words r e),
       );
       step = λ board me words r. (
         refusing.step_refuses board me words r,

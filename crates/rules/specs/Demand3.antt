@@ -1,21 +1,21 @@
 -- Demand 3 of the order: why an answer is what it is. Stated over demand 2's entry rules and Figure 2's table.
-use Rattle.std.specs.Prelude.{◌≡◌, ◌≢◌, Bool, true, false, not, List, [], ◌∷◌, ℕ, ◌-◌, ◌^◌, ◌≤◌, ◌<◌, eqb, length, get_or}
+use Rattle.std.specs.Prelude.{is_ok, ◌≡◌, ◌≢◌, Bool, true, false, not, List, [], ◌∷◌, ℕ, ◌-◌, ◌^◌, ◌≤◌, ◌<◌, eqb, length, get_or}
 use Rattle.rules.specs.Entry.{set_up_rule}
 use Rattle.rules.specs.Figure2.{Returned, content, truth}
 use Rattle.rules.specs.Onlooker.{Seen, seen_in, note_of, stores}
 use Rattle.rules.specs.OwnSteps.{Own, own_in, answer_of, taken, is_busy, answers_call, most_steps}
 use Rattle.rules.specs.Processes.{is_idle, process_at}
 use Rattle.rules.specs.Refusals.{variable_of}
-use Rattle.rules.specs.Runs.{State, Event, begin, step, entry, fresh, run}
+use Rattle.rules.specs.Runs.{State, Event, begin, step, fresh, run}
 use Rattle.rules.specs.Sizes.{bits}
-use Rattle.rules.specs.Types.{Answer, Value, Witness, Yes, No, Call, Load, Validate, Store, Settings, Ready}
+use Rattle.rules.specs.Types.{Reply, Value, Witness, Yes, No, Ok, Call, Load, Validate, Store, Settings}
 
 -- From a fresh set-up of any settings that stand, events in any order, the last of which stands first; then process `me`
 -- takes a step.
 pub record Turn : Type 0 where
   pub settings : Settings
   pub lent : List ℕ
-  pub ready : (set_up_rule settings lent).0.start ≡ Ready
+  pub ready : is_ok (set_up_rule settings lent).0 ≡ true
   pub events : List Event
   pub me : ℕ
 
@@ -26,11 +26,8 @@ start t = fresh t.settings t.lent
 abbrev pub before : Turn → State
 before t = run (start t) t.events
 
-abbrev pub answer : Turn → Answer
+abbrev pub answer : Turn → Reply
 answer t = answer_of (step t.me) (before t)
-
-abbrev pub answered : Turn → ℕ → ℕ
-answered t i = get_or (entry (step t.me) (before t)).0.values i 0
 
 -- what the process has begun, and the steps that it has taken of it, before this step
 abbrev pub own : Turn → Own
@@ -90,22 +87,22 @@ InWindow t = AllShort (start t) (bits t.settings) (step t.me ∷ t.events)
 -- what the step answers is right
 pub record AnswersRight (Premise : Turn → Type 0) : Type 0 where
   -- a witness aside, each answer is the one that atomic LL, VL and SC give at the step document 01 names
-  pub values_are_atomic : (t : Turn) → Premise t → answer t ≡ Value →
-      (d : ℕ → ℕ) × (due t ≡ content d) × ((i : ℕ) → i < t.settings.w → answered t i ≡ d i)
-  pub yes_is_atomic : (t : Turn) → Premise t → answer t ≡ Yes → due t ≡ truth true
-  pub no_is_atomic : (t : Turn) → Premise t → answer t ≡ No → due t ≡ truth false
+  pub values_are_atomic : (t : Turn) → Premise t → (values : List ℕ) → answer t ≡ Ok (Value values) →
+      (d : ℕ → ℕ) × (due t ≡ content d) × ((i : ℕ) → i < t.settings.w → get_or values i 0 ≡ d i)
+  pub yes_is_atomic : (t : Turn) → Premise t → answer t ≡ Ok Yes → due t ≡ truth true
+  pub no_is_atomic : (t : Turn) → Premise t → answer t ≡ Ok No → due t ≡ truth false
   -- at its successful swap, or at the step that found the difference, a store is to Figure 2's SC what it is to the board
   pub store_counts : (t : Turn) → Premise t → taken (answer t) ≡ true → (new : ℕ → ℕ) (swapped : Bool) →
       note_of t.settings (step t.me) (own t) (answer t) ≡ stores new swapped → due t ≡ truth swapped
   -- each "no" has a successful store by another process to that variable since the first step of the LL that last opened
   -- the sequence
-  pub no_has_another : (t : Turn) → Premise t → answer t ≡ No → Another t.me (since t)
+  pub no_has_another : (t : Turn) → Premise t → answer t ≡ Ok No → Another t.me (since t)
   -- a witness names the last process that stored there since that LL's first step
-  pub witness_is_last : (t : Turn) → Premise t → (q : ℕ) → answer t ≡ Witness q →
+  pub witness_is_last : (t : Turn) → Premise t → (q : ℕ) → answer t ≡ Ok (Witness q) →
       (rest : List ℕ) × (since t ≡ q ∷ rest)
   -- a load answers values exactly if no store to that variable succeeded between its first step and its answer
-  pub values_if_none : (t : Turn) → Premise t → answer t ≡ Value → since t ≡ []
-  pub witness_if_some : (t : Turn) → Premise t → (q : ℕ) → answer t ≡ Witness q → since t ≢ []
+  pub values_if_none : (t : Turn) → Premise t → (values : List ℕ) → answer t ≡ Ok (Value values) → since t ≡ []
+  pub witness_if_some : (t : Turn) → Premise t → (q : ℕ) → answer t ≡ Ok (Witness q) → since t ≢ []
 
 -- whether the process is idle before the step
 abbrev pub idle : Turn → Bool

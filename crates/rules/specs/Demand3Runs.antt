@@ -1,14 +1,14 @@
 -- Runs that demand 3 speaks of: P7's and P8's of document 01, two with exactly 2^b - 2 successful stores at b = 4, and one
 -- with 2^b - 1 that shows the premise to be tight.
-use Rattle.std.specs.Prelude.{◌≡◌, List, [], ◌∷◌, ◌++◌, ℕ, ◌-◌, ◌^◌, replicate}
-use Rattle.rules.specs.Demand3.{Turn, start, answer, answered, AtMost, Few, AnswersRight}
+use Rattle.std.specs.Prelude.{is_ok, true, ◌≡◌, List, [], ◌∷◌, ◌++◌, ℕ, ◌-◌, ◌^◌, replicate}
+use Rattle.rules.specs.Demand3.{Turn, start, answer, AtMost, Few, AnswersRight}
 use Rattle.rules.specs.Entry.{set_up_rule}
 use Rattle.rules.specs.Onlooker.{seen_in}
 use Rattle.rules.specs.OwnSteps.{own_in}
 use Rattle.rules.specs.Runs.{Event, step}
-use Rattle.rules.specs.Schedules.{settings, ll, sc, times, p7_events, p8_events}
+use Rattle.rules.specs.Schedules.{settings, value_of_one, ll, sc, times, p7_events, p8_events}
 use Rattle.rules.specs.Sizes.{bits}
-use Rattle.rules.specs.Types.{Answer, Value, Witness, Yes, Call, Load, Store, One, Many, Settings, Ready}
+use Rattle.rules.specs.Types.{Reply, Witness, Yes, Ok, Call, Load, Store, One, Many, Settings}
 
 -- a schedule lists its events in the order of time; a turn wants the last first
 unfoldable pub backwards : List Event → List Event → List Event
@@ -16,20 +16,19 @@ backwards [] done = done
 backwards (event ∷ events) done = backwards events (event ∷ done)
 
 -- four words are what these boards use at most
-abbrev pub turn_of : (s : Settings) → (set_up_rule s (replicate 4 0)).0.start ≡ Ready → List Event → ℕ → Turn
+abbrev pub turn_of : (s : Settings) → is_ok (set_up_rule s (replicate 4 0)).0 ≡ true → List Event → ℕ → Turn
 turn_of s ready events me = record { settings = s; lent = replicate 4 0; ready = ready; events = backwards events []; me = me }
 
--- after these events the step of `me` gives this answer and first value, with so many stores; and the premise is met
-pub record Meets (s : Settings) (events : List Event) (me stores : ℕ) (a : Answer) (first : ℕ) : Type 0 where
-  pub ready : (set_up_rule s (replicate 4 0)).0.start ≡ Ready
+-- after these events the step of `me` gives this answer, with so many stores; and the premise is met
+pub record Meets (s : Settings) (events : List Event) (me stores : ℕ) (a : Reply) : Type 0 where
+  pub ready : is_ok (set_up_rule s (replicate 4 0)).0 ≡ true
   pub few : Few (turn_of s ready events me)
   pub total : (seen_in (start (turn_of s ready events me)) (step me ∷ (turn_of s ready events me).events) 0).total ≡ stores
   pub answers : answer (turn_of s ready events me) ≡ a
-  pub value : answered (turn_of s ready events me) 0 ≡ first
 
 -- after these events the step of `me` gives this answer to this call, at so many steps of its own
-pub record TakesSteps (s : Settings) (events : List Event) (me : ℕ) (a : Answer) (call : Call) (steps : ℕ) : Type 0 where
-  pub ready : (set_up_rule s (replicate 4 0)).0.start ≡ Ready
+pub record TakesSteps (s : Settings) (events : List Event) (me : ℕ) (a : Reply) (call : Call) (steps : ℕ) : Type 0 where
+  pub ready : is_ok (set_up_rule s (replicate 4 0)).0 ≡ true
   pub answers : answer (turn_of s ready events me) ≡ a
   pub its : (own_in (start (turn_of s ready events me)) (step me ∷ (turn_of s ready events me).events) me).call ≡ call
   pub took : (own_in (start (turn_of s ready events me)) (step me ∷ (turn_of s ready events me).events) me).steps ≡ steps
@@ -79,12 +78,12 @@ abbrev pub FewButOne : Turn → Type 0
 FewButOne t = AtMost (2 ^ bits t.settings - 1) t
 
 pub record Demand3Runs : Type 0 where
-  pub p7_meets : Meets many4 p7_events 1 1 Value 5
-  pub p8_meets : Meets many4 p8_events 1 1 (Witness 0) 0
-  pub overtaken_meets : Meets many4 overtaken 1 14 (Witness 0) 0
-  pub fourteenth_meets : Meets one4 fourteenth 0 14 Yes 0
+  pub p7_meets : Meets many4 p7_events 1 1 (value_of_one 5)
+  pub p8_meets : Meets many4 p8_events 1 1 (Ok (Witness 0))
+  pub overtaken_meets : Meets many4 overtaken 1 14 (Ok (Witness 0))
+  pub fourteenth_meets : Meets one4 fourteenth 0 14 (Ok Yes)
   -- the step bounds are met: P7's load takes 1 + 5W, a store that another has helped takes 2 + 6W
-  pub slowest_load : TakesSteps many4 p7_events 1 Value (Load 0) 6
-  pub slowest_store : TakesSteps many4 helped 0 Yes (Store 0) 8
+  pub slowest_load : TakesSteps many4 p7_events 1 (value_of_one 5) (Load 0) 6
+  pub slowest_store : TakesSteps many4 helped 0 (Ok Yes) (Store 0) 8
   -- with 2^b - 1 stores demand 3 is false
   pub tight : AnswersRight FewButOne → ⊥

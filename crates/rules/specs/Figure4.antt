@@ -2,16 +2,16 @@
 use Rattle.std.specs.Prelude.{cond, List, [], ◌∷◌, ℕ, eqb, get_or, set}
 use Rattle.word.specs.Word.{word, tag_of, value_of, next_tag}
 use Rattle.rules.specs.Sizes.{bits, word_at, word_of}
-use Rattle.rules.specs.Processes.{opening, closing, keeping, kept_of, ends, ends_with}
-use Rattle.rules.specs.Types.{Value, Yes, No, Moved, Process, Settings}
+use Rattle.rules.specs.Processes.{opening, closing, keeping, kept_of, ends}
+use Rattle.rules.specs.Types.{Value, Yes, No, Answered, Process, Settings}
 
 abbrev pub Step : Type 0
-Step = Moved × List ℕ
+Step = Answered Process × List ℕ
 
 -- lines 1 and 2: read the word, keep it whole, answer the value; the sequence opens
 abbrev pub load_reads_word : Settings → Process → ℕ → List ℕ → Step
 load_reads_word s p x words = (
-  ends_with Value (value_of (bits s) (word_of x words) ∷ 0 ∷ 0 ∷ 0 ∷ []) (opening x (keeping x (word_of x words) p)),
+  ends (Value (value_of (bits s) (word_of x words) ∷ 0 ∷ 0 ∷ 0 ∷ [])) (opening x (keeping x (word_of x words) p)),
   words,
 )
 

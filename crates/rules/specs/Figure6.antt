@@ -3,9 +3,9 @@
 use Rattle.std.specs.Prelude.{true, false, cond, List, ℕ, ◌+◌, eqb, ltb, get_or, set}
 use Rattle.word.specs.Word.{word, tag_of, value_of, next_tag, previous_tag}
 use Rattle.rules.specs.Figure4.{Step}
-use Rattle.rules.specs.Processes.{opening, closing, keeping, kept_of, gathering, gathering_anew, goes_on, ends, ends_with}
+use Rattle.rules.specs.Processes.{opening, closing, keeping, kept_of, gathering, gathering_anew, goes_on, ends}
 use Rattle.rules.specs.Sizes.{bits, header_at, segment_at, announce_at, header_of, segment_of, announced_of}
-use Rattle.rules.specs.Types.{Value, Witness, Yes, No, Copy, Moved, StoreAnnounces, StoreSwapsHeader, ReadsSegment, ReadsAnnounced, SwapsSegment, ReadsSegmentAgain, ReadsHeader, Process, Settings}
+use Rattle.rules.specs.Types.{Value, Witness, Yes, No, Copy, Answered, StoreAnnounces, StoreSwapsHeader, ReadsSegment, ReadsAnnounced, SwapsSegment, ReadsSegmentAgain, ReadsHeader, Process, Settings}
 
 -- 10, 11, 12: read the header, keep its tag, then Copy with that header, gathering values; the sequence opens
 abbrev pub load_reads_header : Settings → Process → ℕ → List ℕ → Step
@@ -79,18 +79,18 @@ abbrev pub saving : Copy → ℕ → Process → Process
 saving c value p = cond c.gathers (gathering c.segment value p) p
 
 -- 9, 12 and 20, 21: Copy is through: a load answers the values; a store yes, and its sequence closes
-abbrev pub copy_through : Copy → Process → Moved
-copy_through c p = cond c.gathers (ends_with Value p.gathered p) (ends Yes (closing c.variable p))
+abbrev pub copy_through : Copy → Process → Answered Process
+copy_through c p = cond c.gathers (ends (Value p.gathered) p) (ends Yes (closing c.variable p))
 
 -- 1: the next segment, or the end
-abbrev pub copy_on : Settings → Copy → Process → Moved
+abbrev pub copy_on : Settings → Copy → Process → Answered Process
 copy_on s c p =
     cond (ltb (c.segment + 1) s.w)
     (goes_on (ReadsSegment (record { variable = c.variable; header = c.header; segment = c.segment + 1; gathers = c.gathers })) p)
     (copy_through c p)
 
 -- 7: the header differs: end at once with the process named in the header just read; in a store yes in any case
-abbrev pub copy_cut_short : Settings → Copy → ℕ → Process → Moved
+abbrev pub copy_cut_short : Settings → Copy → ℕ → Process → Answered Process
 copy_cut_short s c header p =
     cond c.gathers (ends (Witness (value_of (bits s) header)) p) (ends Yes (closing c.variable p))
 

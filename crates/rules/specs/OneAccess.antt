@@ -38,7 +38,7 @@ abbrev pub InCall : Process → Type 0
 InCall p = is_idle p.place ≡ false
 
 pub record OneAccess : Type 0 where
-  -- the process, its answer and the values of the answer are the same in both
+  -- the process and its answer are the same in both
   pub sees_one_word : (s : Settings) (p : Process) (me : ℕ) (words others : List ℕ) → InCall p → AgreeThere s p me words others
       → (process_step s p me words).0 ≡ (process_step s p me others).0
   -- so is what stands there after the step, where the address is lent

@@ -6,7 +6,7 @@ use Rattle.rules.specs.Figure2.{change, Atomic, Returned, nothing, LL, VL, SC}
 use Rattle.rules.specs.OwnSteps.{Own, answer_of, taken, own_in}
 use Rattle.rules.specs.Refusals.{variable_of}
 use Rattle.rules.specs.Runs.{State, Event, begin, step, process_of, run}
-use Rattle.rules.specs.Types.{Answer, Begun, Busy, Value, Witness, Yes, No, AnswerRefused, Call, Load, Validate, Store, Kind, One, Many, Settings}
+use Rattle.rules.specs.Types.{Reply, Begun, Busy, Value, Witness, Yes, No, Ok, Err, Call, Load, Validate, Store, Kind, One, Many, Settings}
 
 -- what was seen of one variable
 pub record Seen : Type 0 where
@@ -68,14 +68,14 @@ see p (stores new false) o =
       due = change o.due p (SC p new o.atomic).1;
     }
 
-abbrev pub is_no : Answer → Bool
-is_no Begun = false
-is_no Busy = false
-is_no Value = false
-is_no (Witness q) = false
-is_no Yes = false
-is_no No = true
-is_no (AnswerRefused refusal) = false
+abbrev pub is_no : Reply → Bool
+is_no (Ok Begun) = false
+is_no (Ok Busy) = false
+is_no (Ok (Value values)) = false
+is_no (Ok (Witness q)) = false
+is_no (Ok Yes) = false
+is_no (Ok No) = true
+is_no (Err refusal) = false
 
 -- the steps that a store takes before its swap of the word or header: of kind `many` it reads the header and announces its
 -- W values first
@@ -86,7 +86,7 @@ before_swap Many w = 1 + w
 -- what a step is for its call, by the new values, the steps taken before it and its answer. A load counts at its first step; a
 -- validate at its only step; a store at its successful swap of the word or header, or at the step that found the difference
 -- and answers no
-abbrev pub note_by : ℕ → Call → (ℕ → ℕ) → ℕ → Answer → Note
+abbrev pub note_by : ℕ → Call → (ℕ → ℕ) → ℕ → Reply → Note
 note_by before (Load x) new steps answer = cond (eqb steps 0) loads quiet
 note_by before (Validate x) new steps answer = checks
 note_by before (Store x) new steps answer =
@@ -97,7 +97,7 @@ abbrev pub new_values : Own → ℕ → ℕ
 new_values own i = get_or own.values i 0
 
 -- own is what was kept of the event's process before it
-abbrev pub note_of : Settings → Event → Own → Answer → Note
+abbrev pub note_of : Settings → Event → Own → Reply → Note
 note_of s (begin me call values) own answer = begins
 note_of s (step me) own answer = note_by (before_swap s.kind s.w) own.call (new_values own) own.steps answer
 
@@ -106,7 +106,7 @@ variable_in (begin me call values) own = variable_of call
 variable_in (step me) own = variable_of own.call
 
 -- an event that the board refuses is not seen
-abbrev pub watch : Settings → Event → Answer → Own → (ℕ → Seen) → ℕ → Seen
+abbrev pub watch : Settings → Event → Reply → Own → (ℕ → Seen) → ℕ → Seen
 watch s event answer own seen =
     cond (taken answer)
     (change seen (variable_in event own) (see (process_of event) (note_of s event own answer) (seen (variable_in event own))))

@@ -4,29 +4,24 @@ use Rattle.std.specs.Prelude.{Bool, true, false, cond, List, [], ◌∷◌, ℕ,
 use Rattle.rules.specs.Figure2.{change}
 use Rattle.rules.specs.Processes.{no_values}
 use Rattle.rules.specs.Runs.{State, Event, begin, step, process_of, entry, run}
-use Rattle.rules.specs.Types.{Answer, Begun, Busy, Value, Witness, Yes, No, AnswerRefused, Call, Load, Validate, Store, Kind, One, Many, Settings}
+use Rattle.rules.specs.Types.{Reply, Begun, Busy, Value, Witness, Yes, No, Ok, Err, Call, Load, Validate, Store, Kind, One, Many, Settings}
 
-abbrev pub answer_of : Event → State → Answer
+abbrev pub answer_of : Event → State → Reply
 answer_of event state = (entry event state).0.answer
 
 -- the entry point took the event
-abbrev pub taken : Answer → Bool
-taken Begun = true
-taken Busy = true
-taken Value = true
-taken (Witness q) = true
-taken Yes = true
-taken No = true
-taken (AnswerRefused refusal) = false
+abbrev pub taken : Reply → Bool
+taken (Ok answer) = true
+taken (Err refusal) = false
 
-abbrev pub is_busy : Answer → Bool
-is_busy Begun = false
-is_busy Busy = true
-is_busy Value = false
-is_busy (Witness q) = false
-is_busy Yes = false
-is_busy No = false
-is_busy (AnswerRefused refusal) = false
+abbrev pub is_busy : Reply → Bool
+is_busy (Ok Begun) = false
+is_busy (Ok Busy) = true
+is_busy (Ok (Value values)) = false
+is_busy (Ok (Witness q)) = false
+is_busy (Ok Yes) = false
+is_busy (Ok No) = false
+is_busy (Err refusal) = false
 
 pub record Own : Type 0 where
   pub call : Call
@@ -42,10 +37,10 @@ unbegun = record { call = Load 0; values = no_values; steps = 0; waits = false }
 abbrev pub begins_own : Call → List ℕ → Own
 begins_own call values = record { call = call; values = values; steps = 0; waits = true }
 
-abbrev pub steps_own : Answer → Own → Own
+abbrev pub steps_own : Reply → Own → Own
 steps_own answer own = record { call = own.call; values = own.values; steps = suc own.steps; waits = is_busy answer }
 
-abbrev pub counting : Event → Answer → Own → Own
+abbrev pub counting : Event → Reply → Own → Own
 counting (begin me call values) answer own = begins_own call values
 counting (step me) answer own = steps_own answer own
 
@@ -59,25 +54,25 @@ own_in start (event ∷ events) =
     (own_in start events)
 
 -- what a load answers, and what a validate or a store does
-abbrev pub answers_load : Answer → Bool
-answers_load Begun = false
-answers_load Busy = false
-answers_load Value = true
-answers_load (Witness q) = true
-answers_load Yes = false
-answers_load No = false
-answers_load (AnswerRefused refusal) = false
+abbrev pub answers_load : Reply → Bool
+answers_load (Ok Begun) = false
+answers_load (Ok Busy) = false
+answers_load (Ok (Value values)) = true
+answers_load (Ok (Witness q)) = true
+answers_load (Ok Yes) = false
+answers_load (Ok No) = false
+answers_load (Err refusal) = false
 
-abbrev pub answers_test : Answer → Bool
-answers_test Begun = false
-answers_test Busy = false
-answers_test Value = false
-answers_test (Witness q) = false
-answers_test Yes = true
-answers_test No = true
-answers_test (AnswerRefused refusal) = false
+abbrev pub answers_test : Reply → Bool
+answers_test (Ok Begun) = false
+answers_test (Ok Busy) = false
+answers_test (Ok (Value values)) = false
+answers_test (Ok (Witness q)) = false
+answers_test (Ok Yes) = true
+answers_test (Ok No) = true
+answers_test (Err refusal) = false
 
-abbrev pub answers_call : Call → Answer → Bool
+abbrev pub answers_call : Call → Reply → Bool
 answers_call (Load x) answer = answers_load answer
 answers_call (Validate x) answer = answers_test answer
 answers_call (Store x) answer = answers_test answer

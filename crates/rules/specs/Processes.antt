@@ -1,6 +1,6 @@
 -- A process, changed in one thing; and what a step makes of it.
 use Rattle.std.specs.Prelude.{Bool, true, false, cond, List, [], ◌∷◌, ℕ, zero, suc, ◌+◌, ◌-◌, ◌/◌, ◌%◌, ◌^◌, eqb, get_or, set}
-use Rattle.rules.specs.Types.{Answer, Busy, Board, Moved, Place, Idle, LoadReadsWord, ValidateReadsWord, StoreSwapsWord, LoadReadsHeader, ValidateReadsHeader, StoreReadsHeader, StoreAnnounces, StoreSwapsHeader, ReadsSegment, ReadsAnnounced, SwapsSegment, ReadsSegmentAgain, ReadsHeader, Process}
+use Rattle.rules.specs.Types.{Answer, Busy, Answered, Ok, Err, Refusal, Board, Place, Idle, LoadReadsWord, ValidateReadsWord, StoreSwapsWord, LoadReadsHeader, ValidateReadsHeader, StoreReadsHeader, StoreAnnounces, StoreSwapsHeader, ReadsSegment, ReadsAnnounced, SwapsSegment, ReadsSegmentAgain, ReadsHeader, Process}
 
 abbrev pub is_idle : Place → Bool
 is_idle Idle = true
@@ -63,15 +63,16 @@ abbrev pub gathering_anew : Process → Process
 gathering_anew p = record { place = p.place; opened = p.opened; keep = p.keep; values = p.values; gathered = no_values }
 
 -- the step is taken, and the call goes on at a place
-abbrev pub goes_on : Place → Process → Moved
-goes_on place p = record { process = at place p; answer = Busy; values = no_values }
+abbrev pub goes_on : Place → Process → Answered Process
+goes_on place p = record { after = at place p; answer = Ok Busy }
 
--- the last step of a call gives its answer, and values with it, and makes its process idle
-abbrev pub ends_with : Answer → List ℕ → Process → Moved
-ends_with answer values p = record { process = at Idle p; answer = answer; values = values }
+-- the last step of a call gives its answer, and makes its process idle
+abbrev pub ends : Answer → Process → Answered Process
+ends answer p = record { after = at Idle p; answer = Ok answer }
 
-abbrev pub ends : Answer → Process → Moved
-ends answer p = ends_with answer no_values p
+-- a refusal leaves a process, or a board, as found
+abbrev pub refusing : {S : Type 0} → S → Refusal → Answered S
+refusing state refusal = record { after = state; answer = Err refusal }
 
 -- past the end of a list of processes, what the walk of the code takes too
 abbrev pub nobody : Process

@@ -3,13 +3,12 @@ use Rattle.std.specs.Prelude.{◌≡◌, List, [], ◌∷◌, ◌++◌, ℕ, zer
 use Prim.Native.String.{String}
 use Rattle.word.specs.Packing.{pack_rule}
 use Rattle.word.specs.Word.{next_tag, previous_tag}
-use Rattle.word.specs.declared.Packed.TheVariants.{Word}
 use Rattle.rules.specs.Answers.{start_told}
 use Rattle.rules.specs.Entry.{set_up_rule}
 use Rattle.rules.specs.Processes.{no_values}
 use Rattle.rules.specs.Runs.{State, Event, begin, step, fresh, EventRow, rows, NumberedRow, numbered_rows}
 use Rattle.rules.specs.Text.{ascii}
-use Rattle.rules.specs.Types.{NoOpenSequence, ValueTooGreat, ProcessIdle, Answer, Begun, Busy, Value, Witness, Yes, No, AnswerRefused, Load, Validate, Store, Kind, One, Many, Open, Settings, Start}
+use Rattle.rules.specs.Types.{NoOpenSequence, ValueTooGreat, ProcessIdle, Reply, Begun, Busy, Value, Witness, Yes, No, Result, Ok, Err, Refusal, Board, Load, Validate, Store, Kind, One, Many, Settings}
 
 -- N, kind, T, b, W, as in a set-up record; lent are the most words that a board uses
 abbrev pub settings : ℕ → Kind → ℕ → ℕ → ℕ → Settings
@@ -21,8 +20,8 @@ lent = replicate 144 0
 abbrev pub board : ℕ → Kind → ℕ → ℕ → ℕ → State
 board n kind t b w = fresh (settings n kind t b w) lent
 
-abbrev pub start_of : ℕ → Kind → ℕ → ℕ → ℕ → Start
-start_of n kind t b w = (set_up_rule (settings n kind t b w) lent).0.start
+abbrev pub start_of : ℕ → Kind → ℕ → ℕ → ℕ → Result Board Refusal
+start_of n kind t b w = (set_up_rule (settings n kind t b w) lent).0
 
 -- acts, as in a schedule record
 abbrev pub ll : ℕ → ℕ → Event
@@ -35,14 +34,21 @@ abbrev pub sc : ℕ → ℕ → ℕ → Event
 sc p x v = begin p (Store x) (v ∷ 0 ∷ 0 ∷ 0 ∷ [])
 
 -- rows, as in the printout
-abbrev pub row : Answer → ℕ → List ℕ → EventRow
-row answer open' numbers = record { answer = answer; open' = Open open'; numbers = numbers }
+abbrev pub row : Reply → ℕ → List ℕ → EventRow
+row answer open' numbers = record { answer = answer; open' = Ok open'; numbers = numbers }
 
 abbrev pub begun : ℕ → EventRow
-begun open' = row Begun open' []
+begun open' = row (Ok Begun) open' []
 
 abbrev pub busy : ℕ → EventRow
-busy open' = row Busy open' []
+busy open' = row (Ok Busy) open' []
+
+-- a load's answer of one value, where W is 1
+abbrev pub value_of_one : ℕ → Reply
+value_of_one v = Ok (Value (v ∷ 0 ∷ 0 ∷ 0 ∷ []))
+
+abbrev pub loaded : ℕ → ℕ → EventRow
+loaded v open' = row (value_of_one v) open' (v ∷ [])
 
 -- with its record number, process and act
 abbrev pub numbered : ℕ → ℕ → String → EventRow → NumberedRow
@@ -75,44 +81,44 @@ p8_events =
     ∷ step 1 ∷ []
 
 pub record Schedules : Type 0 where
-  pub p1 : pack_rule 48 3 5 ≡ Word 196613
+  pub p1 : pack_rule 48 3 5 ≡ Ok 196613
   pub p2 : (next_tag 4 15 ≡ 0) × (previous_tag 4 0 ≡ 15)
   pub p3 : numbered_rows 1 (board 2 One 1 48 1) (ll 0 0 ∷ step 0 ∷ ll 1 0 ∷ step 1 ∷ sc 0 0 7 ∷ step 0 ∷ vl 1 0 ∷ step 1 ∷ [])
       ≡ numbered 1 0 "LL" (begun 0)
-      ∷ numbered 2 0 "step" (row Value 1 (0 ∷ []))
+      ∷ numbered 2 0 "step" (loaded 0 1)
       ∷ numbered 3 1 "LL" (begun 0)
-      ∷ numbered 4 1 "step" (row Value 1 (0 ∷ []))
+      ∷ numbered 4 1 "step" (loaded 0 1)
       ∷ numbered 5 0 "SC" (begun 1)
-      ∷ numbered 6 0 "step" (row Yes 0 [])
+      ∷ numbered 6 0 "step" (row (Ok Yes) 0 [])
       ∷ numbered 7 1 "VL" (begun 1)
-      ∷ numbered 8 1 "step" (row No 1 [])
+      ∷ numbered 8 1 "step" (row (Ok No) 1 [])
       ∷ []
   pub p4 :
-      (rows (board 2 One 1 48 1) (ll 0 0 ∷ step 0 ∷ sc 0 0 65535 ∷ []) ≡ begun 0 ∷ row Value 1 (0 ∷ []) ∷ begun 1 ∷ [])
+      (rows (board 2 One 1 48 1) (ll 0 0 ∷ step 0 ∷ sc 0 0 65535 ∷ []) ≡ begun 0 ∷ loaded 0 1 ∷ begun 1 ∷ [])
       × (rows (board 2 One 1 48 1) (ll 0 0 ∷ step 0 ∷ sc 0 0 65536 ∷ [])
-      ≡ begun 0 ∷ row Value 1 (0 ∷ []) ∷ row (AnswerRefused ValueTooGreat) 1 (8 ∷ []) ∷ [])
+      ≡ begun 0 ∷ loaded 0 1 ∷ row (Err ValueTooGreat) 1 (8 ∷ []) ∷ [])
   pub p5 : rows (board 2 One 1 48 1) (vl 0 0 ∷ step 0 ∷ [])
-      ≡ row (AnswerRefused NoOpenSequence) 0 (7 ∷ []) ∷ row (AnswerRefused ProcessIdle) 0 (9 ∷ []) ∷ []
+      ≡ row (Err NoOpenSequence) 0 (7 ∷ []) ∷ row (Err ProcessIdle) 0 (9 ∷ []) ∷ []
   -- refused 1; 0 says that a set-up stands
   pub p6 :
       (start_told (start_of 2 One 1 3 1) ≡ (1, [])) × (start_told (start_of 2 One 1 49 1) ≡ (1, []))
       × (start_told (start_of 2 One 1 4 1) ≡ (0, [])) × (start_told (start_of 2 One 1 48 1) ≡ (0, []))
   -- process 1 answers 5 at its sixth step
   pub p7 : rows small (p7_events ++ (step 1 ∷ []))
-      ≡ begun 0 ∷ busy 1 ∷ busy 1 ∷ row Value 1 (0 ∷ []) ∷ begun 1 ∷ busy 1 ∷ busy 1 ∷ busy 1
+      ≡ begun 0 ∷ busy 1 ∷ busy 1 ∷ loaded 0 1 ∷ begun 1 ∷ busy 1 ∷ busy 1 ∷ busy 1
       ∷ begun 0 ∷ busy 1 ∷ busy 1
-      ∷ busy 1 ∷ busy 1 ∷ busy 1 ∷ row Yes 0 [] ∷ begun 0 ∷ busy 1 ∷ busy 1 ∷ row Value 1 (5 ∷ []) ∷ begun 1 ∷ busy 1 ∷ busy 1
-      ∷ busy 1 ∷ busy 1 ∷ busy 1 ∷ row Value 1 (5 ∷ []) ∷ []
+      ∷ busy 1 ∷ busy 1 ∷ busy 1 ∷ row (Ok Yes) 0 [] ∷ begun 0 ∷ busy 1 ∷ busy 1 ∷ loaded 5 1 ∷ begun 1 ∷ busy 1 ∷ busy 1
+      ∷ busy 1 ∷ busy 1 ∷ busy 1 ∷ loaded 5 1 ∷ []
   -- process 0 answers yes after seven steps, process 1 witness 0 at its third
   pub p8 : rows small (p8_events ++ (step 1 ∷ []))
-      ≡ begun 0 ∷ busy 1 ∷ busy 1 ∷ row Value 1 (0 ∷ []) ∷ begun 0 ∷ busy 1
-      ∷ begun 1 ∷ busy 1 ∷ busy 1 ∷ busy 1 ∷ busy 1 ∷ busy 1 ∷ busy 1 ∷ row Yes 0 []
-      ∷ busy 1 ∷ row (Witness 0) 1 (0 ∷ []) ∷ []
+      ≡ begun 0 ∷ busy 1 ∷ busy 1 ∷ loaded 0 1 ∷ begun 0 ∷ busy 1
+      ∷ begun 1 ∷ busy 1 ∷ busy 1 ∷ busy 1 ∷ busy 1 ∷ busy 1 ∷ busy 1 ∷ row (Ok Yes) 0 []
+      ∷ busy 1 ∷ row (Ok (Witness 0)) 1 (0 ∷ []) ∷ []
   pub p9 : rows (board 2 One 1 48 1) (ll 0 0 ∷ step 0 ∷ ll 1 0 ∷ step 1 ∷ sc 0 0 0 ∷ step 0 ∷ sc 1 0 0 ∷ step 1 ∷ [])
-      ≡ begun 0 ∷ row Value 1 (0 ∷ []) ∷ begun 0 ∷ row Value 1 (0 ∷ []) ∷ begun 1 ∷ row Yes 0 [] ∷ begun 1 ∷ row No 0 [] ∷ []
+      ≡ begun 0 ∷ loaded 0 1 ∷ begun 0 ∷ loaded 0 1 ∷ begun 1 ∷ row (Ok Yes) 0 [] ∷ begun 1 ∷ row (Ok No) 0 [] ∷ []
   -- process 1 loads 0; process 0 does 16 rounds of load and store of 0; process 1's store answers yes
   pub p10 : rows (board 2 One 1 4 1)
       (ll 1 0 ∷ step 1 ∷ times 16 (ll 0 0 ∷ step 0 ∷ sc 0 0 0 ∷ step 0 ∷ []) ++ (sc 1 0 0 ∷ step 1 ∷ []))
-      ≡ begun 0 ∷ row Value 1 (0 ∷ [])
-      ∷ times 16 (begun 0 ∷ row Value 1 (0 ∷ []) ∷ begun 1 ∷ row Yes 0 [] ∷ [])
-      ++ (begun 1 ∷ row Yes 0 [] ∷ [])
+      ≡ begun 0 ∷ loaded 0 1
+      ∷ times 16 (begun 0 ∷ loaded 0 1 ∷ begun 1 ∷ row (Ok Yes) 0 [] ∷ [])
+      ++ (begun 1 ∷ row (Ok Yes) 0 [] ∷ [])

@@ -2,22 +2,22 @@
 -- is kept, and that the ones of a mask are the open count. OneAccess, Schedules and Demand3 have files of their own.
 use Rattle.std.specs.Prelude.{◌≡◌, List, ℕ, ◌^◌, ◌≤◌, ◌<◌, length, get_or}
 use Rattle.std.specs.Int.Count.{ones}
-use Rattle.rules.specs.Entry.{blank_board, refusing, set_up_rule, begin_rule, step_rule, open_count_rule}
+use Rattle.rules.specs.Entry.{blank_board, set_up_rule, begin_rule, step_rule, open_count_rule}
 use Rattle.rules.specs.InForm.{Shaped, InForm}
-use Rattle.rules.specs.Processes.{open_count}
-use Rattle.rules.specs.Refusals.{sizes_check, process_check, begin_check, step_check}
+use Rattle.rules.specs.Processes.{open_count, refusing}
+use Rattle.rules.specs.Refusals.{fine, sizes_check, process_check, begin_check, step_check}
 use Rattle.rules.specs.Runs.{State, Event, fresh, run}
 use Rattle.rules.specs.Sizes.{words_used}
-use Rattle.rules.specs.Types.{AnswerRefused, Board, Call, Fine, Refused, CountRefused, Settings, StartRefused, Refusal, SettingOutsideSizes}
+use Rattle.rules.specs.Types.{Board, Call, Settings, Ok, Err, Refusal, SettingOutsideSizes}
 
 -- a refusal answers its number and leaves board and words as found; a refused set-up gives its number and nothing else
 pub record RefusalsLeaveAll : Type 0 where
-  pub set_up : (s : Settings) (words : List ℕ) (r : Refusal) → (set_up_rule s words).0.start ≡ StartRefused r
-      → set_up_rule s words ≡ (record { start = StartRefused r; board = blank_board }, words)
+  pub set_up : (s : Settings) (words : List ℕ) (r : Refusal) → (set_up_rule s words).0 ≡ Err r
+      → set_up_rule s words ≡ (Err r, words)
   pub begin : (board : Board) (me : ℕ) (call : Call) (values words : List ℕ) (r : Refusal)
-      → (begin_rule board me call values words).answer ≡ AnswerRefused r → begin_rule board me call values words ≡ refusing board r
+      → (begin_rule board me call values words).answer ≡ Err r → begin_rule board me call values words ≡ refusing board r
   pub step : (board : Board) (me : ℕ) (words : List ℕ) (r : Refusal)
-      → (step_rule board me words).0.answer ≡ AnswerRefused r → step_rule board me words ≡ (refusing board r, words)
+      → (step_rule board me words).0.answer ≡ Err r → step_rule board me words ≡ (refusing board r, words)
 
 -- a refusal is answered exactly when its check finds it
 abbrev pub Exactly : Type 0 → Type 0 → Type 0
@@ -25,20 +25,20 @@ Exactly A B = (A → B) × (B → A)
 
 pub record RefusedExactly : Type 0 where
   pub set_up : (s : Settings) (words : List ℕ) (r : Refusal)
-      → Exactly ((set_up_rule s words).0.start ≡ StartRefused r) (sizes_check s (length words) ≡ Refused r)
+      → Exactly ((set_up_rule s words).0 ≡ Err r) (sizes_check s (length words) ≡ Err r)
   pub begin : (board : Board) (me : ℕ) (call : Call) (values words : List ℕ) (r : Refusal)
-      → Exactly ((begin_rule board me call values words).answer ≡ AnswerRefused r) (begin_check board me call values words ≡ Refused r)
+      → Exactly ((begin_rule board me call values words).answer ≡ Err r) (begin_check board me call values words ≡ Err r)
   pub step : (board : Board) (me : ℕ) (words : List ℕ) (r : Refusal)
-      → Exactly ((step_rule board me words).0.answer ≡ AnswerRefused r) (step_check board me words ≡ Refused r)
+      → Exactly ((step_rule board me words).0.answer ≡ Err r) (step_check board me words ≡ Err r)
   pub count : (board : Board) (me : ℕ) (words : List ℕ) (r : Refusal)
-      → Exactly (open_count_rule board me words ≡ CountRefused r) (process_check board me words ≡ Refused r)
+      → Exactly (open_count_rule board me words ≡ Err r) (process_check board me words ≡ Err r)
 
--- the blank board, which a refused set-up gives, is refused 1 by every entry point
+-- the blank board is refused 1 by every entry point
 pub record BlankRefused : Type 0 where
   pub begin : (me : ℕ) (call : Call) (values words : List ℕ)
       → begin_rule blank_board me call values words ≡ refusing blank_board SettingOutsideSizes
   pub step : (me : ℕ) (words : List ℕ) → step_rule blank_board me words ≡ (refusing blank_board SettingOutsideSizes, words)
-  pub count : (me : ℕ) (words : List ℕ) → open_count_rule blank_board me words ≡ CountRefused SettingOutsideSizes
+  pub count : (me : ℕ) (words : List ℕ) → open_count_rule blank_board me words ≡ Err SettingOutsideSizes
 
 -- a state that came from a set-up with these settings and words lent
 pub record Running (s : Settings) (lent : List ℕ) (state : State) : Type 0 where
@@ -50,10 +50,10 @@ pub record Running (s : Settings) (lent : List ℕ) (state : State) : Type 0 whe
 -- good form is kept by every accepted begin and step, and so all along a run from an accepted set-up
 pub record GoodFormKept : Type 0 where
   pub begin_keeps : (board : Board) (me : ℕ) (words : List ℕ) → Shaped board words → (call : Call) (values : List ℕ)
-      → begin_check board me call values words ≡ Fine → InForm (begin_rule board me call values words).board words
+      → begin_check board me call values words ≡ fine → InForm (begin_rule board me call values words).after words
   pub step_keeps : (board : Board) (me : ℕ) (words : List ℕ) → Shaped board words
-      → step_check board me words ≡ Fine → InForm (step_rule board me words).0.board (step_rule board me words).1
-  pub always_in_form : (s : Settings) (lent : List ℕ) → sizes_check s (length lent) ≡ Fine
+      → step_check board me words ≡ fine → InForm (step_rule board me words).0.after (step_rule board me words).1
+  pub always_in_form : (s : Settings) (lent : List ℕ) → sizes_check s (length lent) ≡ fine
       → (events : List Event) → Running s lent (run (fresh s lent) events)
 
 -- of a mask with no bit from k on, the count of ones is the count over the variables

@@ -2,8 +2,8 @@
 use Rattle.std.specs.Prelude.{List, ℕ}
 use Rattle.rules.specs.Figure4.{Step, load_reads_word, validate_reads_word, store_swaps_word}
 use Rattle.rules.specs.Figure6.{load_reads_header, validate_reads_header, store_reads_header, store_announces, store_swaps_header, reads_segment, reads_announced, swaps_segment, reads_segment_again, reads_header}
-use Rattle.rules.specs.Processes.{ends}
-use Rattle.rules.specs.Types.{AnswerRefused, Call, Load, Validate, Store, Kind, One, Many, Place, Idle, LoadReadsWord, ValidateReadsWord, StoreSwapsWord, LoadReadsHeader, ValidateReadsHeader, StoreReadsHeader, StoreAnnounces, StoreSwapsHeader, ReadsSegment, ReadsAnnounced, SwapsSegment, ReadsSegmentAgain, ReadsHeader, Process, Settings, ProcessIdle}
+use Rattle.rules.specs.Processes.{refusing}
+use Rattle.rules.specs.Types.{Call, Load, Validate, Store, Kind, One, Many, Place, Idle, LoadReadsWord, ValidateReadsWord, StoreSwapsWord, LoadReadsHeader, ValidateReadsHeader, StoreReadsHeader, StoreAnnounces, StoreSwapsHeader, ReadsSegment, ReadsAnnounced, SwapsSegment, ReadsSegmentAgain, ReadsHeader, Process, Settings, ProcessIdle}
 
 abbrev pub first_place : Kind → Call → Place
 first_place One (Load x) = LoadReadsWord x
@@ -20,7 +20,7 @@ beginning s call values p =
 
 -- me is the process's own number; an idle process takes no step
 abbrev pub step_from : Place → Settings → Process → ℕ → List ℕ → Step
-step_from Idle s p me words = (ends (AnswerRefused ProcessIdle) p, words)
+step_from Idle s p me words = (refusing p ProcessIdle, words)
 step_from (LoadReadsWord x) s p me words = load_reads_word s p x words
 step_from (ValidateReadsWord x) s p me words = validate_reads_word s p x words
 step_from (StoreSwapsWord x) s p me words = store_swaps_word s p x words

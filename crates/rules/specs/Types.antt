@@ -7,10 +7,10 @@ pub use Rattle.rules.specs.declared.Copy.{Copy}
 pub use Rattle.rules.specs.declared.Place.{Place, TheVariants.Idle, TheVariants.LoadReadsWord, TheVariants.ValidateReadsWord, TheVariants.StoreSwapsWord, TheVariants.LoadReadsHeader, TheVariants.ValidateReadsHeader, TheVariants.StoreReadsHeader, TheVariants.StoreAnnounces, TheVariants.StoreSwapsHeader, TheVariants.ReadsSegment, TheVariants.ReadsAnnounced, TheVariants.SwapsSegment, TheVariants.ReadsSegmentAgain, TheVariants.ReadsHeader}
 pub use Rattle.rules.specs.declared.Process.{Process}
 pub use Rattle.rules.specs.declared.Board.{Board}
-pub use Rattle.rules.specs.declared.Answer.{Answer, TheVariants.Begun, TheVariants.Busy, TheVariants.Value, TheVariants.Witness, TheVariants.Yes, TheVariants.No, TheVariants.Refused as AnswerRefused}
-pub use Rattle.rules.specs.declared.Moved.{Moved}
+pub use Rattle.rules.specs.declared.Answer.{Answer, TheVariants.Begun, TheVariants.Busy, TheVariants.Value, TheVariants.Witness, TheVariants.Yes, TheVariants.No}
 pub use Rattle.rules.specs.declared.Answered.{Answered}
-pub use Rattle.rules.specs.declared.Start.{Start, TheVariants.Ready, TheVariants.Refused as StartRefused}
-pub use Rattle.rules.specs.declared.SetUp.{SetUp}
-pub use Rattle.rules.specs.declared.OpenCount.{OpenCount, TheVariants.Open, TheVariants.Refused as CountRefused}
-pub use Rattle.rules.specs.declared.Check.{Check, TheVariants.Fine, TheVariants.Refused}
+pub use Rattle.std.specs.Prelude.{Result, Ok, Err}
+
+-- what an entry point answers to a begin or a step: an answer, or a refusal
+abbrev pub Reply : Type 0
+Reply = Result Answer Refusal

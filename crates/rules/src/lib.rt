@@ -4,14 +4,14 @@
 
 use word::{Layout, Refusal};
 
-#[derive(Clone, Copy)]
+#[derive(Clone, Copy, Debug, PartialEq, Eq)]
 pub enum Kind {
     One,
     Many,
 }
 
 // N processes, T variables, W segments; the tag bits b stand in the layout.
-#[derive(Clone, Copy)]
+#[derive(Clone, Copy, Debug, PartialEq, Eq)]
 pub struct Settings {
     pub kind: Kind,
     pub n: usize,
@@ -24,7 +24,7 @@ pub struct Settings {
 pub type Values = [u64; 4];
 
 // A call of a variable. The values of a store lie beside it.
-#[derive(Clone, Copy)]
+#[derive(Clone, Copy, Debug, PartialEq, Eq)]
 pub enum Call {
     Load(usize),
     Validate(usize),
@@ -79,56 +79,20 @@ pub struct Board {
     pub processes: [Process; 16],
 }
 
-// Values of `Value` lie beside it.
+// What a begin or a step answers where it is not refused.
 #[derive(Clone, Copy)]
 pub enum Answer {
     Begun,
     Busy,
-    Value,
+    Value(Values),
     Witness(u64),
     Yes,
     No,
-    Refused(Refusal),
 }
 
-// A process after its step, with the answer and its values.
+// A process or a board after a begin or a step, with the answer. A refusal leaves it as found.
 #[derive(Clone, Copy)]
-pub struct Moved {
-    pub process: Process,
-    pub answer: Answer,
-    pub values: Values,
-}
-
-// A board after a begin or a step, with the answer and its values.
-#[derive(Clone, Copy)]
-pub struct Answered {
-    pub board: Board,
-    pub answer: Answer,
-    pub values: Values,
-}
-
-#[derive(Clone, Copy)]
-pub enum Start {
-    Ready,
-    Refused(Refusal),
-}
-
-// A set-up's board. A refused set-up gives the blank board, which every entry point refuses.
-#[derive(Clone, Copy)]
-pub struct SetUp {
-    pub start: Start,
-    pub board: Board,
-}
-
-#[derive(Clone, Copy)]
-pub enum OpenCount {
-    Open(u32),
-    Refused(Refusal),
-}
-
-// What a check of a begin, a step or a count finds: the first refusal that holds, or that all is well.
-#[derive(Clone, Copy)]
-pub enum Check {
-    Fine,
-    Refused(Refusal),
+pub struct Answered<S> {
+    pub after: S,
+    pub answer: Result<Answer, Refusal>,
 }

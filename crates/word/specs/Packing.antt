@@ -1,27 +1,23 @@
 -- Packing checks 1 (for b alone), then 8; unpacking only 1. A refusal gives its number and nothing else.
-use Rattle.std.specs.Prelude.{ℕ, cond, ◌&&◌, [], ◌∷◌, nat_lt}
-use Rattle.word.specs.Refusals.{Told, refused, accepted}
+use Rattle.std.specs.Prelude.{ℕ, if◌then◌else◌, ◌&&◌, [], ◌∷◌, nat_lt, Result, Ok, Err}
+use Rattle.word.specs.Refusals.{Told, told}
 use Rattle.word.specs.Word.{bits_fit, tag_limit, value_limit, word, tag_of, value_of}
-use Rattle.word.specs.declared.Packed.{Packed}
-use Rattle.word.specs.declared.Packed.TheVariants.{Word, Refused as NotPacked}
-use Rattle.word.specs.declared.Unpacked.{Unpacked}
-use Rattle.word.specs.declared.Unpacked.TheVariants.{Parts, Refused as NotUnpacked}
+use Rattle.word.specs.declared.Parts.{Parts}
+use Rattle.word.specs.declared.Refusal.{Refusal}
 use Rattle.word.specs.declared.Refusal.TheVariants.{SettingOutsideSizes, ValueTooGreat}
 
-abbrev pub pack_rule : ℕ → ℕ → ℕ → Packed
+abbrev pub pack_rule : ℕ → ℕ → ℕ → Result ℕ Refusal
 pack_rule b tag value =
-    cond (bits_fit b)
-    (cond (nat_lt tag (tag_limit b) && nat_lt value (value_limit b)) (Word (word b tag value)) (NotPacked ValueTooGreat))
-    (NotPacked SettingOutsideSizes)
+    if bits_fit b
+    then if nat_lt tag (tag_limit b) && nat_lt value (value_limit b) then Ok (word b tag value) else Err ValueTooGreat
+    else Err SettingOutsideSizes
 
-abbrev pub unpack_rule : ℕ → ℕ → Unpacked
-unpack_rule b w = cond (bits_fit b) (Parts (tag_of b w) (value_of b w)) (NotUnpacked SettingOutsideSizes)
+abbrev pub unpack_rule : ℕ → ℕ → Result Parts Refusal
+unpack_rule b w = if bits_fit b then Ok (record { tag = tag_of b w; value = value_of b w }) else Err SettingOutsideSizes
 
 -- what each answer tells: the word; the tag and the value
-abbrev pub packed_told : Packed → Told
-packed_told (Word w) = accepted (w ∷ [])
-packed_told (NotPacked refusal) = refused refusal
+abbrev pub packed_told : Result ℕ Refusal → Told
+packed_told = told (λ w. w ∷ [])
 
-abbrev pub unpacked_told : Unpacked → Told
-unpacked_told (Parts tag value) = accepted (tag ∷ value ∷ [])
-unpacked_told (NotUnpacked refusal) = refused refusal
+abbrev pub unpacked_told : Result Parts Refusal → Told
+unpacked_told = told (λ parts. parts.tag ∷ parts.value ∷ [])

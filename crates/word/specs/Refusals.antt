@@ -1,5 +1,5 @@
 -- Document 01, "Refusal numbers": the number of each refusal, and what an answer tells by numbers.
-use Rattle.std.specs.Prelude.{ℕ, List, []}
+use Rattle.std.specs.Prelude.{ℕ, List, [], Result, Ok, Err}
 use Rattle.word.specs.declared.Refusal.{Refusal}
 use Rattle.word.specs.declared.Refusal.TheVariants.{SettingOutsideSizes, MemoryTooShort, NotInGoodForm, NoSuchProcess, NoSuchVariable, CallInProgress, NoOpenSequence, ValueTooGreat, ProcessIdle, RecordNotInForm, FieldNotInForm, TooManyRecords}
 
@@ -22,8 +22,11 @@ abbrev pub Told : Type 0
 Told = ℕ × List ℕ
 
 -- a refusal tells its number and nothing else
-abbrev pub refused : Refusal → Told
-refused refusal = (number refusal, [])
+abbrev pub told : {A : Type 0} → (A → List ℕ) → Result A Refusal → Told
+told values (Ok answer) = (0, values answer)
+told values (Err refusal) = (number refusal, [])
 
-abbrev pub accepted : List ℕ → Told
-accepted values = (0, values)
+-- the number alone
+abbrev pub told_number : {A : Type 0} → Result A Refusal → ℕ
+told_number (Ok answer) = 0
+told_number (Err refusal) = number refusal

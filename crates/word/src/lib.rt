@@ -8,8 +8,10 @@ ghost use Rattle.word.specs.Packing.{pack_rule, unpack_rule};
 
 mod numbers; // numbers.rt: the number of each refusal and answer
 
+pub use numbers::number_of;
+
 // Document 01's refusals, in the order of their numbers; `specs/Refusals.antt` gives each its number.
-#[derive(Clone, Copy)]
+#[derive(Clone, Copy, Debug, PartialEq, Eq)]
 pub enum Refusal {
     SettingOutsideSizes,
     MemoryTooShort,
@@ -25,19 +27,14 @@ pub enum Refusal {
     TooManyRecords,
 }
 
-#[derive(Clone, Copy)]
-pub enum Packed {
-    Word(u64),
-    Refused(Refusal),
+// What a word holds.
+#[derive(Clone, Copy, Debug, PartialEq, Eq)]
+pub struct Parts {
+    pub tag: u64,
+    pub value: u64,
 }
 
-#[derive(Clone, Copy)]
-pub enum Unpacked {
-    Parts { tag: u64, value: u64 },
-    Refused(Refusal),
-}
-
-#[derive(Clone, Copy)]
+#[derive(Clone, Copy, Debug, PartialEq, Eq)]
 pub struct Layout {
     pub bits: u64,
 }
@@ -61,11 +58,7 @@ impl Layout {
     pub fn stands(self) -> bool
         ensures { result ≡ bits_fit self.bits }
     {
-        let bits = self.bits;
-        if Layout::LEAST_BITS <= bits {
-            return bits <= Layout::MOST_BITS;
-        }
-        false
+        Layout::LEAST_BITS <= self.bits && self.bits <= Layout::MOST_BITS
     }
 
     // The first number that is no tag.
@@ -119,32 +112,30 @@ impl Layout {
         std::num::wrapping_sub_u64(tag, 1) % self.tag_limit()
     }
 
-    pub fn pack(self, tag: u64, value: u64) -> Packed
+    pub fn pack(self, tag: u64, value: u64) -> Result<u64, Refusal>
         ensures { result ≡ pack_rule self.bits tag value }
     {
         if !self.stands() {
-            return Packed::Refused(Refusal::SettingOutsideSizes);
+            return Err(Refusal::SettingOutsideSizes);
         }
         if tag >= self.tag_limit() {
-            return Packed::Refused(Refusal::ValueTooGreat);
+            return Err(Refusal::ValueTooGreat);
         }
         if value >= self.value_limit() {
-            return Packed::Refused(Refusal::ValueTooGreat);
+            return Err(Refusal::ValueTooGreat);
         }
-        Packed::Word(self.word_of(tag, value))
+        Ok(self.word_of(tag, value))
     }
 
-    pub fn unpack(self, w: u64) -> Unpacked
+    pub fn unpack(self, w: u64) -> Result<Parts, Refusal>
         ensures { result ≡ unpack_rule self.bits w }
     {
         if !self.stands() {
-            return Unpacked::Refused(Refusal::SettingOutsideSizes);
+            return Err(Refusal::SettingOutsideSizes);
         }
-        let tag = self.tag_of(w);
-        let value = self.value_of(w);
-        Unpacked::Parts {
-            tag: tag,
-            value: value,
-        }
+        Ok(Parts {
+            tag: self.tag_of(w),
+            value: self.value_of(w),
+        })
     }
 }

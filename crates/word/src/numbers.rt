@@ -1,9 +1,8 @@
-// Document 01's number of each refusal, and of each answer of packing and unpacking: 0 where it is not refused.
+// Document 01's number of each refusal, and of what an entry point answers: 0 where it is not refused.
 ghost use Rattle.std.specs.Prelude.{◌≡◌};
-ghost use Rattle.word.specs.Refusals.{number};
-ghost use Rattle.word.specs.Packing.{packed_told, unpacked_told};
+ghost use Rattle.word.specs.Refusals.{number, told_number};
 
-use super::{Packed, Refusal, Unpacked};
+use super::Refusal;
 
 impl Refusal {
     pub fn number(self) -> u64
@@ -26,24 +25,11 @@ impl Refusal {
     }
 }
 
-impl Packed {
-    pub fn number(self) -> u64
-        ensures { result ≡ (packed_told self).0 }
-    {
-        match self {
-            Packed::Word(_) => 0,
-            Packed::Refused(refusal) => refusal.number(),
-        }
-    }
-}
-
-impl Unpacked {
-    pub fn number(self) -> u64
-        ensures { result ≡ (unpacked_told self).0 }
-    {
-        match self {
-            Unpacked::Parts { tag: _, value: _ } => 0,
-            Unpacked::Refused(refusal) => refusal.number(),
-        }
+pub fn number_of<T: Copy>(answer: Result<T, Refusal>) -> u64
+    ensures { result ≡ told_number answer }
+{
+    match answer {
+        Ok(_) => 0,
+        Err(refusal) => refusal.number(),
     }
 }

@@ -16,21 +16,21 @@ use Rattle.rules.specs.OwnSteps.{is_busy, answers_load, answers_test, answers_ca
 use Rattle.rules.specs.Processes.{is_idle, kept_of, ends}
 use Rattle.rules.specs.Sizes.{bits, word_of, header_of, segment_of}
 use Rattle.rules.specs.Steps.{step_from}
-use Rattle.rules.specs.Types.{Answer, Busy, Yes, Copy, Call, Validate, Store, Kind, One, Many, Moved, Place, Idle, LoadReadsWord, ValidateReadsWord, StoreSwapsWord, LoadReadsHeader, ValidateReadsHeader, StoreReadsHeader, StoreAnnounces, StoreSwapsHeader, ReadsSegment, ReadsAnnounced, SwapsSegment, ReadsSegmentAgain, ReadsHeader, Process, Settings}
+use Rattle.rules.specs.Types.{Answer, Reply, Busy, Ok, Yes, Copy, Call, Validate, Store, Kind, One, Many, Answered, Process, Place, Idle, LoadReadsWord, ValidateReadsWord, StoreSwapsWord, LoadReadsHeader, ValidateReadsHeader, StoreReadsHeader, StoreAnnounces, StoreSwapsHeader, ReadsSegment, ReadsAnnounced, SwapsSegment, ReadsSegmentAgain, ReadsHeader, Settings}
 use Rattle.rules.proofs.Branches.{both_arms}
 use Rattle.rules.proofs.Tests.{never}
 use Rattle.rules.proofs.Calls.Begun.{is_copying, copy_in, Copies, in_load, in_store, Begun, at_rest, loads_word, validates_word, stores_word, loads_header, validates_header, stores_header, announces, swaps, copies}
 use Rattle.rules.proofs.Calls.Told.{note_at}
 
 -- what a step from place l makes of a process that has taken so many steps in its call
-pub record Onward (s : Settings) (call : Call) (steps : ℕ) (l : Place) (r : Moved) : Type 0 where
-  pub begun : Begun s.w call (suc steps) r.process.place
-  pub idle : is_idle r.process.place ≡ not (is_busy r.answer)
+pub record Onward (s : Settings) (call : Call) (steps : ℕ) (l : Place) (r : Answered Process) : Type 0 where
+  pub begun : Begun s.w call (suc steps) r.after.place
+  pub idle : is_idle r.after.place ≡ not (is_busy r.answer)
   pub answers : is_busy r.answer ≡ false → answers_call call r.answer ≡ true
   pub note : (new : ℕ → ℕ) → note_at l new r.answer ≡ note_by (before_swap s.kind s.w) call new steps r.answer
 
 -- as the onlooker notes it
-abbrev Noted : Settings → Call → ℕ → Place → Answer → Type 0
+abbrev Noted : Settings → Call → ℕ → Place → Reply → Type 0
 Noted s call steps l a = (new : ℕ → ℕ) → note_at l new a ≡ note_by (before_swap s.kind s.w) call new steps a
 
 -- what good form says of a place, as far as it is needed here
@@ -51,11 +51,11 @@ Placed s (ReadsSegmentAgain c) = Unit {0}
 Placed s (ReadsHeader c value) = Unit {0}
 
 -- a call that goes on, and one that ends; nothing else of the process plays a part
-goes_on_lem : {s : Settings} {call : Call} {steps : ℕ} {l : Place} (r : Moved) → is_busy r.answer ≡ true → is_idle r.process.place ≡ false
-    → Begun s.w call (suc steps) r.process.place → Noted s call steps l r.answer → Onward s call steps l r
+goes_on_lem : {s : Settings} {call : Call} {steps : ℕ} {l : Place} (r : Answered Process) → is_busy r.answer ≡ true → is_idle r.after.place ≡ false
+    → Begun s.w call (suc steps) r.after.place → Noted s call steps l r.answer → Onward s call steps l r
 goes_on_lem r t i b n = record { begun = b; idle = i ∙ ap not (sym t); answers = λ f. never (sym t ∙ f); note = n }
 
-answered : {s : Settings} {call : Call} {steps : ℕ} {l : Place} (r : Moved) → r.process.place ≡ Idle → is_busy r.answer ≡ false
+answered : {s : Settings} {call : Call} {steps : ℕ} {l : Place} (r : Answered Process) → r.after.place ≡ Idle → is_busy r.answer ≡ false
     → answers_call call r.answer ≡ true → Noted s call steps l r.answer → Onward s call steps l r
 answered {s} {call} {steps} r rest t a n =
     record {
@@ -71,11 +71,11 @@ before_most One w = omega arith
 before_most Many w = omega arith
 
 -- a store that goes on or says yes is noted at its swap alone
-before_swap_lem : (s : Settings) (x steps : ℕ) (l : Place) (a : Answer) → is_no a ≡ false → ((new : ℕ → ℕ) → note_at l new a ≡ quiet)
+before_swap_lem : (s : Settings) (x steps : ℕ) (l : Place) (a : Reply) → is_no a ≡ false → ((new : ℕ → ℕ) → note_at l new a ≡ quiet)
     → (steps ≡ before_swap s.kind s.w → ⊥) → Noted s (Store x) steps l a
 before_swap_lem s x steps l a e q n new = rw (e, ne_eqb steps (before_swap s.kind s.w) n) (q new)
 
-at_swap : (s : Settings) (x steps : ℕ) (l : Place) (a : Answer) → is_no a ≡ false → ((new : ℕ → ℕ) → note_at l new a ≡ stores new true)
+at_swap : (s : Settings) (x steps : ℕ) (l : Place) (a : Reply) → is_no a ≡ false → ((new : ℕ → ℕ) → note_at l new a ≡ stores new true)
     → steps ≡ before_swap s.kind s.w → Noted s (Store x) steps l a
 at_swap s x steps l a e q n new = rw (e, eq-eqb steps (before_swap s.kind s.w) n) (q new)
 
@@ -86,8 +86,8 @@ one_before : (s : Settings) → s.kind ≡ One → before_swap s.kind s.w ≡ 0
 one_before s e = ap (λ (k : Kind). before_swap k s.w) e
 
 -- from a place in Copy, at which nothing is noted
-module _ (s : Settings) (l : Place) (still : (new : ℕ → ℕ) (a : Answer) → note_at l new a ≡ quiet) where
-  copy_noted : {call : Call} {x steps : ℕ} {g : Bool} (a : Answer) → is_no a ≡ false → Copies s.w call steps x g → Noted s call steps l a
+module _ (s : Settings) (l : Place) (still : (new : ℕ → ℕ) (a : Reply) → note_at l new a ≡ quiet) where
+  copy_noted : {call : Call} {x steps : ℕ} {g : Bool} (a : Reply) → is_no a ≡ false → Copies s.w call steps x g → Noted s call steps l a
   copy_noted a e (in_load {steps = n} h) = λ new. rw (ne_eqb n 0 (omega arith)) (still new a)
   copy_noted a e (in_store {x = x} {steps = n} h) =
       before_swap_lem s x n l a e (λ new. still new a) (λ q. omega (arith, before_most s.kind s.w))
@@ -97,15 +97,15 @@ module _ (s : Settings) (l : Place) (still : (new : ℕ → ℕ) (a : Answer) �
   copies_on (in_store {steps = n} h) = in_store {steps = suc n} (omega arith)
 
   -- Copy goes on
-  copying : {call : Call} {steps : ℕ} (r : Moved) → is_busy r.answer ≡ true → is_no r.answer ≡ false → is_idle r.process.place ≡ false
-      → is_copying r.process.place ≡ true → Copies s.w call steps (copy_in r.process.place).variable (copy_in r.process.place).gathers
+  copying : {call : Call} {steps : ℕ} (r : Answered Process) → is_busy r.answer ≡ true → is_no r.answer ≡ false → is_idle r.after.place ≡ false
+      → is_copying r.after.place ≡ true → Copies s.w call steps (copy_in r.after.place).variable (copy_in r.after.place).gathers
       → Onward s call steps l r
   copying r t e i c h = goes_on_lem r t i (copies c (copies_on h)) (copy_noted r.answer e h)
 
   -- Copy is through, or cut short: a load answers as a load does, a store yes
-  copy_ends : {call : Call} {x steps : ℕ} {g : Bool} → Copies s.w call steps x g → (a b : Moved)
-      → a.process.place ≡ Idle → is_busy a.answer ≡ false → is_no a.answer ≡ false → answers_load a.answer ≡ true
-      → b.process.place ≡ Idle → is_busy b.answer ≡ false → is_no b.answer ≡ false → answers_test b.answer ≡ true
+  copy_ends : {call : Call} {x steps : ℕ} {g : Bool} → Copies s.w call steps x g → (a b : Answered Process)
+      → a.after.place ≡ Idle → is_busy a.answer ≡ false → is_no a.answer ≡ false → answers_load a.answer ≡ true
+      → b.after.place ≡ Idle → is_busy b.answer ≡ false → is_no b.answer ≡ false → answers_test b.answer ≡ true
       → Onward s call steps l (cond g a b)
   copy_ends (in_load {x = x} m) a b rest t e f rest' t' e' f' = answered a rest t f (copy_noted a.answer e (in_load {x = x} m))
   copy_ends (in_store {x = x} m) a b rest t e f rest' t' e' f' = answered b rest' t' f' (copy_noted b.answer e' (in_store {x = x} m))
@@ -168,7 +168,7 @@ module _ (s : Settings) (p : Process) (me : ℕ) (words : List ℕ) where
       (answered _ refl refl refl (λ new. refl))
   onward (stores_word {x = x}) busy one =
       both_arms (λ (r : Step). Onward s (Store x) 0 (StoreSwapsWord x) r.0) (eqb (word_of x words) (kept_of x p)) _ _
-      (answered _ refl refl refl (at_swap s x 0 (StoreSwapsWord x) Yes refl (λ new. refl) (sym (one_before s one))))
+      (answered _ refl refl refl (at_swap s x 0 (StoreSwapsWord x) (Ok Yes) refl (λ new. refl) (sym (one_before s one))))
       (answered _ refl refl refl (λ new. refl))
   onward (loads_header {x = x}) busy f = goes_on_lem _ refl refl (copies refl (in_load {steps = 1} (omega arith))) (λ new. refl)
   onward (validates_header {x = x}) busy f =
@@ -179,16 +179,16 @@ module _ (s : Settings) (p : Process) (me : ℕ) (words : List ℕ) where
   onward (stores_header {x = x}) busy many =
       let later = many_before s many in
       both_arms (λ (r : Step). Onward s (Store x) 0 (StoreReadsHeader x) r.0) (eqb (tag_of (bits s) (header_of s x words)) (kept_of x p)) _ _
-      (goes_on_lem _ refl refl (announces refl) (before_swap_lem s x 0 (StoreReadsHeader x) Busy refl (λ new. refl) (λ q. omega arith)))
+      (goes_on_lem _ refl refl (announces refl) (before_swap_lem s x 0 (StoreReadsHeader x) (Ok Busy) refl (λ new. refl) (λ q. omega arith)))
       (answered _ refl refl refl (λ new. refl))
   onward (announces {x = x} {h = h} {i = i} {steps = n} e) busy f =
       let later = many_before s f.0 in
       let l : i < s.w = f.1 in
       goes_on_lem _ refl (announcing_busy x h i (ltb (i + 1) s.w)) (announced_on x h i n e l (ltb (i + 1) s.w) refl)
-      (before_swap_lem s x n (StoreAnnounces x h i) Busy refl (λ new. refl) (λ q. omega arith))
+      (before_swap_lem s x n (StoreAnnounces x h i) (Ok Busy) refl (λ new. refl) (λ q. omega arith))
   onward (swaps {x = x} {h = h} {steps = n} e) busy many =
       both_arms (λ (r : Step). Onward s (Store x) n (StoreSwapsHeader x h) r.0) (eqb (header_of s x words) h) _ _
       (goes_on_lem _ refl refl (copies refl (in_store {steps = suc n} (omega arith)))
-      (at_swap s x n (StoreSwapsHeader x h) Busy refl (λ new. refl) (e ∙ sym (many_before s many))))
+      (at_swap s x n (StoreSwapsHeader x h) (Ok Busy) refl (λ new. refl) (e ∙ sym (many_before s many))))
       (answered _ refl refl refl (λ new. refl))
   onward (copies {l = l} e h) busy f = onward_copy l e h

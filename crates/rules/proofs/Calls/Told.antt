@@ -9,14 +9,14 @@ use Rattle.rules.specs.OwnSteps.{taken, answer_of}
 use Rattle.rules.specs.Processes.{process_at}
 use Rattle.rules.specs.Refusals.{variable_of}
 use Rattle.rules.specs.Runs.{State, Event, begin, step, process_of}
-use Rattle.rules.specs.Types.{Answer, Place, Idle, LoadReadsWord, ValidateReadsWord, StoreSwapsWord, LoadReadsHeader, ValidateReadsHeader, StoreReadsHeader, StoreAnnounces, StoreSwapsHeader, ReadsSegment, ReadsAnnounced, SwapsSegment, ReadsSegmentAgain, ReadsHeader, Process}
+use Rattle.rules.specs.Types.{Reply, Place, Idle, LoadReadsWord, ValidateReadsWord, StoreSwapsWord, LoadReadsHeader, ValidateReadsHeader, StoreReadsHeader, StoreAnnounces, StoreSwapsHeader, ReadsSegment, ReadsAnnounced, SwapsSegment, ReadsSegmentAgain, ReadsHeader, Process}
 use Rattle.rules.proofs.Changes.Places.{variable_at}
 
 abbrev pub place_of : State → ℕ → Place
 place_of state me = (process_at state.board me).place
 
 -- what a step from a place is for its call, by its answer
-abbrev pub note_at : Place → (ℕ → ℕ) → Answer → Note
+abbrev pub note_at : Place → (ℕ → ℕ) → Reply → Note
 note_at Idle new answer = quiet
 note_at (LoadReadsWord x) new answer = loads
 note_at (ValidateReadsWord x) new answer = checks

@@ -9,7 +9,8 @@ use Rattle.rules.specs.Entry.{fresh_process, fresh_board}
 use Rattle.rules.specs.Processes.{at, opening, keeping, gathering, no_values, put_process}
 use Rattle.rules.specs.Refusals.{process_check}
 use Rattle.rules.specs.Schedules.{settings}
-use Rattle.rules.specs.Types.{NotInGoodForm, Check, Fine, Refused, Copy, Kind, One, Many, Place, LoadReadsWord, ValidateReadsWord, StoreSwapsWord, LoadReadsHeader, ValidateReadsHeader, StoreReadsHeader, StoreAnnounces, StoreSwapsHeader, ReadsSegment, ReadsAnnounced, SwapsSegment, ReadsSegmentAgain, ReadsHeader, Process}
+use Rattle.rules.specs.Types.{NotInGoodForm, Ok, Err, Copy, Kind, One, Many, Place, LoadReadsWord, ValidateReadsWord, StoreSwapsWord, LoadReadsHeader, ValidateReadsHeader, StoreReadsHeader, StoreAnnounces, StoreSwapsHeader, ReadsSegment, ReadsAnnounced, SwapsSegment, ReadsSegmentAgain, ReadsHeader, Process}
+use Rattle.rules.specs.Refusals.{Check}
 use Rattle.rules.proofs.Cases.Computing.{schedule}
 
 -- what the open count's check says of a board with this process, over these words
@@ -45,7 +46,7 @@ storing v =
 
 -- at the limit it passes; past it, it is refused
 abbrev Bounds : Check → Check → Type 0
-Bounds within past = (within ≡ Fine) × (past ≡ Refused NotInGoodForm)
+Bounds within past = (within ≡ Ok tt) × (past ≡ Err NotInGoodForm)
 
 pub record ClauseLimits : Type 0 where
   -- the place is one the kind has

@@ -4,12 +4,11 @@ use mathlib.Core.Path.{◌≡◌, refl}
 use mathlib.Core.List.{List, [], ◌∷◌}
 use Prim.Native.Nat.{ℕ}
 use Rattle.word.specs.Packing.{pack_rule}
-use Rattle.word.specs.declared.Packed.TheVariants.{Refused as NotPacked}
 use Rattle.rules.specs.Entry.{fresh_process, fresh_board}
 use Rattle.rules.specs.Processes.{at, opening, no_values, put_process}
 use Rattle.rules.specs.Refusals.{sizes_check, process_check, begin_check, step_check}
 use Rattle.rules.specs.Schedules.{settings}
-use Rattle.rules.specs.Types.{SettingOutsideSizes, MemoryTooShort, NotInGoodForm, NoSuchProcess, NoSuchVariable, CallInProgress, NoOpenSequence, ValueTooGreat, ProcessIdle, Board, Load, Validate, Store, Fine, Refused, One, LoadReadsWord, LoadReadsHeader}
+use Rattle.rules.specs.Types.{SettingOutsideSizes, MemoryTooShort, NotInGoodForm, NoSuchProcess, NoSuchVariable, CallInProgress, NoOpenSequence, ValueTooGreat, ProcessIdle, Board, Load, Validate, Store, Ok, Err, One, LoadReadsWord, LoadReadsHeader}
 use Rattle.rules.proofs.Cases.Computing.{schedule}
 
 -- one word is lent, and used, by kind one with one variable
@@ -42,31 +41,31 @@ abbrev second : List ℕ
 second = 0 ∷ 1 ∷ 0 ∷ 0 ∷ []
 
 pub record Order : Type 0 where
-  pub set_up_1_2 : sizes_check (settings 0 One 1 48 1) 0 ≡ Refused SettingOutsideSizes
-  pub begin_1_2 : begin_check unsized 0 (Load 0) no_values [] ≡ Refused SettingOutsideSizes
-  pub begin_2_3 : begin_check formless 0 (Load 0) no_values [] ≡ Refused MemoryTooShort
-  pub begin_3_4 : begin_check formless 7 (Load 0) no_values lent ≡ Refused NotInGoodForm
-  pub begin_4_5 : begin_check idle 7 (Load 9) no_values lent ≡ Refused NoSuchProcess
-  pub begin_5_6 : begin_check loading 0 (Load 9) no_values lent ≡ Refused NoSuchVariable
-  pub begin_6_7 : begin_check loading 0 (Validate 0) no_values lent ≡ Refused CallInProgress
-  pub begin_7_8 : begin_check idle 0 (Store 0) wide lent ≡ Refused NoOpenSequence
-  pub step_1_2 : step_check unsized 0 [] ≡ Refused SettingOutsideSizes
-  pub step_2_3 : step_check formless 0 [] ≡ Refused MemoryTooShort
-  pub step_3_4 : step_check formless 7 lent ≡ Refused NotInGoodForm
-  pub step_4_9 : step_check idle 7 lent ≡ Refused NoSuchProcess
-  pub count_1_2 : process_check unsized 0 [] ≡ Refused SettingOutsideSizes
-  pub count_2_3 : process_check formless 0 [] ≡ Refused MemoryTooShort
-  pub count_3_4 : process_check formless 7 lent ≡ Refused NotInGoodForm
-  pub packing_1_8 : pack_rule 3 8 0 ≡ NotPacked SettingOutsideSizes
+  pub set_up_1_2 : sizes_check (settings 0 One 1 48 1) 0 ≡ Err SettingOutsideSizes
+  pub begin_1_2 : begin_check unsized 0 (Load 0) no_values [] ≡ Err SettingOutsideSizes
+  pub begin_2_3 : begin_check formless 0 (Load 0) no_values [] ≡ Err MemoryTooShort
+  pub begin_3_4 : begin_check formless 7 (Load 0) no_values lent ≡ Err NotInGoodForm
+  pub begin_4_5 : begin_check idle 7 (Load 9) no_values lent ≡ Err NoSuchProcess
+  pub begin_5_6 : begin_check loading 0 (Load 9) no_values lent ≡ Err NoSuchVariable
+  pub begin_6_7 : begin_check loading 0 (Validate 0) no_values lent ≡ Err CallInProgress
+  pub begin_7_8 : begin_check idle 0 (Store 0) wide lent ≡ Err NoOpenSequence
+  pub step_1_2 : step_check unsized 0 [] ≡ Err SettingOutsideSizes
+  pub step_2_3 : step_check formless 0 [] ≡ Err MemoryTooShort
+  pub step_3_4 : step_check formless 7 lent ≡ Err NotInGoodForm
+  pub step_4_9 : step_check idle 7 lent ≡ Err NoSuchProcess
+  pub count_1_2 : process_check unsized 0 [] ≡ Err SettingOutsideSizes
+  pub count_2_3 : process_check formless 0 [] ≡ Err MemoryTooShort
+  pub count_3_4 : process_check formless 7 lent ≡ Err NotInGoodForm
+  pub packing_1_8 : pack_rule 3 8 0 ≡ Err SettingOutsideSizes
 
 -- a value too great, one from place W on, and any with a load or a validate; and that the last of each list stands
 pub record Values : Type 0 where
-  pub too_great : begin_check opened 0 (Store 0) wide lent ≡ Refused ValueTooGreat
-  pub from_w_on : begin_check opened 0 (Store 0) second lent ≡ Refused ValueTooGreat
-  pub with_load : begin_check opened 0 (Load 0) second lent ≡ Refused ValueTooGreat
-  pub with_validate : begin_check opened 0 (Validate 0) second lent ≡ Refused ValueTooGreat
-  pub stands : begin_check opened 0 (Store 0) (65535 ∷ 0 ∷ 0 ∷ 0 ∷ []) lent ≡ Fine
-  pub idle_step : step_check opened 0 lent ≡ Refused ProcessIdle
+  pub too_great : begin_check opened 0 (Store 0) wide lent ≡ Err ValueTooGreat
+  pub from_w_on : begin_check opened 0 (Store 0) second lent ≡ Err ValueTooGreat
+  pub with_load : begin_check opened 0 (Load 0) second lent ≡ Err ValueTooGreat
+  pub with_validate : begin_check opened 0 (Validate 0) second lent ≡ Err ValueTooGreat
+  pub stands : begin_check opened 0 (Store 0) (65535 ∷ 0 ∷ 0 ∷ 0 ∷ []) lent ≡ Ok tt
+  pub idle_step : step_check opened 0 lent ≡ Err ProcessIdle
 
 pub in_order : Order
 unfolding schedule

@@ -14,7 +14,7 @@ use Rattle.rules.specs.OneAccess.{address_of, OneAccess}
 use Rattle.rules.specs.Processes.{is_idle, kept_of}
 use Rattle.rules.specs.Sizes.{bits, word_at, header_at, segment_at, announce_at, word_of, header_of, segment_of, words_used}
 use Rattle.rules.specs.Steps.{step_from, process_step}
-use Rattle.rules.specs.Types.{Copy, Moved, Place, Idle, LoadReadsWord, ValidateReadsWord, StoreSwapsWord, LoadReadsHeader, ValidateReadsHeader, StoreReadsHeader, StoreAnnounces, StoreSwapsHeader, ReadsSegment, ReadsAnnounced, SwapsSegment, ReadsSegmentAgain, ReadsHeader, Process, Settings}
+use Rattle.rules.specs.Types.{Copy, Answered, Process, Place, Idle, LoadReadsWord, ValidateReadsWord, StoreSwapsWord, LoadReadsHeader, ValidateReadsHeader, StoreReadsHeader, StoreAnnounces, StoreSwapsHeader, ReadsSegment, ReadsAnnounced, SwapsSegment, ReadsSegmentAgain, ReadsHeader, Settings}
 use Rattle.rules.proofs.Changes.Frame.{framed}
 use Rattle.rules.proofs.Changes.Places.{Writes}
 use Rattle.rules.proofs.GoodForm.Held as form
@@ -27,10 +27,10 @@ record Alike (a : ℕ) (words others : List ℕ) (one two : Step) : Type 0 where
   word : a < length words → a < length others → get_or words a 0 ≡ get_or others a 0 → get_or one.1 a 0 ≡ get_or two.1 a 0
 
 module _ {a : ℕ} {words others : List ℕ} where
-  reads : {one two : Moved} → one ≡ two → Alike a words others (one, words) (two, others)
+  reads : {one two : Answered Process} → one ≡ two → Alike a words others (one, words) (two, others)
   reads e = record { moved = e; word = λ l m w. w }
 
-  writes : {one two : Moved} (v u : ℕ) → one ≡ two → v ≡ u → Alike a words others (one, set words a v) (two, set others a u)
+  writes : {one two : Answered Process} (v u : ℕ) → one ≡ two → v ≡ u → Alike a words others (one, set words a v) (two, set others a u)
   writes v u e f = record { moved = e; word = λ l m w. rw (get_or-set_same words a v 0 l, get_or-set_same others a u 0 m) f }
 
   -- both take the same branch

@@ -15,18 +15,18 @@ use Rattle.rules.specs.OwnSteps.{taken}
 use Rattle.rules.specs.Processes.{is_idle, is_open, with_closed, kept_of, opening, closing, ends}
 use Rattle.rules.specs.Sizes.{bits, word_at, header_at, segment_at, announce_at, word_of, header_of, segment_of}
 use Rattle.rules.specs.Steps.{step_from}
-use Rattle.rules.specs.Types.{Answer, Copy, Moved, Place, Idle, LoadReadsWord, ValidateReadsWord, StoreSwapsWord, LoadReadsHeader, ValidateReadsHeader, StoreReadsHeader, StoreAnnounces, StoreSwapsHeader, ReadsSegment, ReadsAnnounced, SwapsSegment, ReadsSegmentAgain, ReadsHeader, Process, Settings}
+use Rattle.rules.specs.Types.{Answer, Reply, Copy, Answered, Process, Place, Idle, LoadReadsWord, ValidateReadsWord, StoreSwapsWord, LoadReadsHeader, ValidateReadsHeader, StoreReadsHeader, StoreAnnounces, StoreSwapsHeader, ReadsSegment, ReadsAnnounced, SwapsSegment, ReadsSegmentAgain, ReadsHeader, Settings}
 use Rattle.rules.proofs.Branches.{branch, both_arms}
 use Rattle.rules.proofs.Sequences.Closing.{opening_opens, opening_no_other, closing_closes, closing_no_other}
 use Rattle.rules.proofs.Changes.Places.{variable_at, Writes, open_after}
 
 -- a process p and what a step from place l makes of it
-pub record Own (l : Place) (p : Process) (moved : Moved) : Type 0 where
+pub record Own (l : Place) (p : Process) (moved : Answered Process) : Type 0 where
   pub sequence :
-      is_open moved.process.opened (variable_at l) ≡ open_after l moved.answer (is_open p.opened (variable_at l))
-  pub sequences : (y : ℕ) → (y ≡ variable_at l → ⊥) → is_open moved.process.opened y ≡ is_open p.opened y
-  pub keeps : (y : ℕ) → (y ≡ variable_at l → ⊥) → kept_of y moved.process ≡ kept_of y p
-  pub values : moved.process.values ≡ p.values
+      is_open moved.after.opened (variable_at l) ≡ open_after l moved.answer (is_open p.opened (variable_at l))
+  pub sequences : (y : ℕ) → (y ≡ variable_at l → ⊥) → is_open moved.after.opened y ≡ is_open p.opened y
+  pub keeps : (y : ℕ) → (y ≡ variable_at l → ⊥) → kept_of y moved.after ≡ kept_of y p
+  pub values : moved.after.values ≡ p.values
   pub answers : taken moved.answer ≡ true
 
 -- the words before and after a step that may write where W says
@@ -38,10 +38,10 @@ pub record Framed (l : Place) (W : ℕ → Type 0) (p : Process) (words : List �
   pub own : Own l p step.0
   pub touched : Touched W words step.1
 
-module _ (l : Place) (p : Process) (moved : Moved)
-    (values : moved.process.values ≡ p.values) (answers : taken moved.answer ≡ true) where
+module _ (l : Place) (p : Process) (moved : Answered Process)
+    (values : moved.after.values ≡ p.values) (answers : taken moved.answer ≡ true) where
   -- nothing of the process but its place and what it gathered has changed
-  stays : moved.process.opened ≡ p.opened → moved.process.keep ≡ p.keep
+  stays : moved.after.opened ≡ p.opened → moved.after.keep ≡ p.keep
       → open_after l moved.answer (is_open p.opened (variable_at l)) ≡ is_open p.opened (variable_at l) → Own l p moved
   stays o k same =
       record {
@@ -53,7 +53,7 @@ module _ (l : Place) (p : Process) (moved : Moved)
       }
 
   -- the sequence was closed besides
-  closes : moved.process.opened ≡ (closing (variable_at l) p).opened → moved.process.keep ≡ p.keep
+  closes : moved.after.opened ≡ (closing (variable_at l) p).opened → moved.after.keep ≡ p.keep
       → open_after l moved.answer (is_open p.opened (variable_at l)) ≡ false → Own l p moved
   closes o k shut =
       record {
@@ -65,8 +65,8 @@ module _ (l : Place) (p : Process) (moved : Moved)
       }
 
   -- the sequence was opened and a word kept for it
-  opens : (kept : ℕ) → moved.process.opened ≡ (opening (variable_at l) p).opened
-      → moved.process.keep ≡ set p.keep (variable_at l) kept
+  opens : (kept : ℕ) → moved.after.opened ≡ (opening (variable_at l) p).opened
+      → moved.after.keep ≡ set p.keep (variable_at l) kept
       → open_after l moved.answer (is_open p.opened (variable_at l)) ≡ true → Own l p moved
   opens kept o k wide =
       record {
@@ -122,7 +122,7 @@ module _ (s : Settings) (c : Copy) (value : ℕ) (p : Process) where
       (λ e. closes (ReadsHeader c value) p _ refl refl refl refl (a_store e))
 
 -- a step that reads, and one that writes where its place says
-module _ {l : Place} {W : ℕ → Type 0} {p : Process} {words : List ℕ} {moved : Moved} (own : Own l p moved) where
+module _ {l : Place} {W : ℕ → Type 0} {p : Process} {words : List ℕ} {moved : Answered Process} (own : Own l p moved) where
   reads : Framed l W p words (moved, words)
   reads = record { own = own; touched = untouched W words }
 

@@ -11,7 +11,8 @@ use Rattle.rules.specs.Processes.{is_open, nobody, process_at}
 use Rattle.rules.specs.Refusals.{begin_check, step_check}
 use Rattle.rules.specs.Sizes.{word_of, header_of, segment_of, announced_of, words_used}
 use Rattle.rules.specs.Steps.{process_step}
-use Rattle.rules.specs.Types.{Answer, Board, Call, Check, Fine, Refused, One, Many, Place, Process}
+use Rattle.rules.specs.Types.{Reply, Board, Call, Ok, Err, One, Many, Place, Process}
+use Rattle.rules.specs.Refusals.{Check}
 use Rattle.rules.proofs.Refusals.Checked.{Accepted, step_accepted}
 use Rattle.rules.proofs.Changes.Frame.{framed}
 use Rattle.rules.proofs.Changes.Places.{variable_at, open_after}
@@ -23,37 +24,37 @@ use Rattle.rules.proofs.Changes.Reach.{Where, place_writes, writes_used, writes_
 -- neither a begin nor a step changes another process, or the settings
 module _ (board : Board) (me : ℕ) (words : List ℕ) where
   pub begin_no_other : (call : Call) (values : List ℕ) (i : ℕ) → (i ≡ me → ⊥)
-      → process_at (begin_rule board me call values words).board i ≡ process_at board i
+      → process_at (begin_rule board me call values words).after i ≡ process_at board i
   unfolding begin_rule
   begin_no_other call values i ne = go (begin_check board me call values words)
     where
-      go : (c : Check) → process_at (begin_by c board me call values).board i ≡ process_at board i
-      go Fine = get_or-set_other board.processes me i _ nobody ne
-      go (Refused r) = refl
+      go : (c : Check) → process_at (begin_by c board me call values).after i ≡ process_at board i
+      go (Ok done) = get_or-set_other board.processes me i _ nobody ne
+      go (Err r) = refl
 
-  pub step_no_other : (i : ℕ) → (i ≡ me → ⊥) → process_at (step_rule board me words).0.board i ≡ process_at board i
+  pub step_no_other : (i : ℕ) → (i ≡ me → ⊥) → process_at (step_rule board me words).0.after i ≡ process_at board i
   unfolding step_rule
   step_no_other i ne = go (step_check board me words)
     where
-      go : (c : Check) → process_at (step_by c board me words).0.board i ≡ process_at board i
-      go Fine = get_or-set_other board.processes me i _ nobody ne
-      go (Refused r) = refl
+      go : (c : Check) → process_at (step_by c board me words).0.after i ≡ process_at board i
+      go (Ok done) = get_or-set_other board.processes me i _ nobody ne
+      go (Err r) = refl
 
-  pub begin_settings : (call : Call) (values : List ℕ) → (begin_rule board me call values words).board.settings ≡ board.settings
+  pub begin_settings : (call : Call) (values : List ℕ) → (begin_rule board me call values words).after.settings ≡ board.settings
   unfolding begin_rule
   begin_settings call values = go (begin_check board me call values words)
     where
-      go : (c : Check) → (begin_by c board me call values).board.settings ≡ board.settings
-      go Fine = refl
-      go (Refused r) = refl
+      go : (c : Check) → (begin_by c board me call values).after.settings ≡ board.settings
+      go (Ok done) = refl
+      go (Err r) = refl
 
-  pub step_settings : (step_rule board me words).0.board.settings ≡ board.settings
+  pub step_settings : (step_rule board me words).0.after.settings ≡ board.settings
   unfolding step_rule
   step_settings = go (step_check board me words)
     where
-      go : (c : Check) → (step_by c board me words).0.board.settings ≡ board.settings
-      go Fine = refl
-      go (Refused r) = refl
+      go : (c : Check) → (step_by c board me words).0.after.settings ≡ board.settings
+      go (Ok done) = refl
+      go (Err r) = refl
 
   -- a step leaves every word but the one that its place names
   pub step_rest : (a : ℕ) → (Accepted board me words → Where board.settings me (process_at board me).place a → ⊥)
@@ -62,22 +63,22 @@ module _ (board : Board) (me : ℕ) (words : List ℕ) where
   step_rest a ne = go (step_check board me words) refl
     where
       go : (c : Check) → step_check board me words ≡ c → get_or (step_by c board me words).1 a 0 ≡ get_or words a 0
-      go Fine e =
+      go (Ok done) e =
           let both = step_accepted board me words e in
           let fits = process_fits_lem board words both.0.good me both.0.mine in
           let place = at_place _ _ fits (process_at board me).place refl in
           (framed (process_at board me).place board.settings (process_at board me) me words both.1).touched.rest a
           (λ w. ne both.0 (place_writes board.settings (process_at board me).opened me _ a place w))
-      go (Refused r) e = refl
+      go (Err r) e = refl
 
   pub step_length : length (step_rule board me words).1 ≡ length words
   unfolding step_rule process_step
   step_length = go (step_check board me words) refl
     where
       go : (c : Check) → step_check board me words ≡ c → length (step_by c board me words).1 ≡ length words
-      go Fine e =
+      go (Ok done) e =
           (framed (process_at board me).place board.settings (process_at board me) me words (step_accepted board me words e).1).touched.lent
-      go (Refused r) e = refl
+      go (Err r) e = refl
 
   -- words past those used
   pub step_past : (a : ℕ) → words_used board.settings ≤ a → get_or (step_rule board me words).1 a 0 ≡ get_or words a 0
@@ -106,12 +107,12 @@ module _ (board : Board) (me : ℕ) (words : List ℕ) where
   step_row q j hj ne many = step_rest _ (λ ok. writes_no_row board.settings me _ q j hj ne many)
 
 -- what an accepted step makes of its own process, on a board that holds it
-module _ (board : Board) (me : ℕ) (words : List ℕ) (there : me < length board.processes) (fine : step_check board me words ≡ Fine) where
-  pub step_own : process_at (step_rule board me words).0.board me
-      ≡ (process_step board.settings (process_at board me) me words).0.process
+module _ (board : Board) (me : ℕ) (words : List ℕ) (there : me < length board.processes) (fine : step_check board me words ≡ Ok tt) where
+  pub step_own : process_at (step_rule board me words).0.after me
+      ≡ (process_step board.settings (process_at board me) me words).0.after
   unfolding step_rule
   step_own =
-      ap (λ (c : Check). process_at (step_by c board me words).0.board me) fine ∙ get_or-set_same board.processes me _ nobody there
+      ap (λ (c : Check). process_at (step_by c board me words).0.after me) fine ∙ get_or-set_same board.processes me _ nobody there
 
   pub step_answer : (step_rule board me words).0.answer ≡ (process_step board.settings (process_at board me) me words).0.answer
   unfolding step_rule
@@ -120,7 +121,7 @@ module _ (board : Board) (me : ℕ) (words : List ℕ) (there : me < length boar
   -- a load opens its sequence at its first step, a store closes it at its answer, every other step leaves it
   pub step_sequence :
       let l : Place = (process_at board me).place in
-      is_open (process_at (step_rule board me words).0.board me).opened (variable_at l)
+      is_open (process_at (step_rule board me words).0.after me).opened (variable_at l)
       ≡ open_after l (step_rule board me words).0.answer (is_open (process_at board me).opened (variable_at l))
   unfolding process_step
   step_sequence =
@@ -128,11 +129,11 @@ module _ (board : Board) (me : ℕ) (words : List ℕ) (there : me < length boar
       let frame = framed l board.settings (process_at board me) me words (step_accepted board me words fine).1 in
       ap (λ (p : Process). is_open p.opened (variable_at l)) step_own
       ∙ frame.own.sequence
-      ∙ ap (λ (a : Answer). open_after l a (is_open (process_at board me).opened (variable_at l))) (sym step_answer)
+      ∙ ap (λ (a : Reply). open_after l a (is_open (process_at board me).opened (variable_at l))) (sym step_answer)
 
   -- and it leaves the sequences on all other variables
   pub step_sequences : (y : ℕ) → (y ≡ variable_at (process_at board me).place → ⊥)
-      → is_open (process_at (step_rule board me words).0.board me).opened y ≡ is_open (process_at board me).opened y
+      → is_open (process_at (step_rule board me words).0.after me).opened y ≡ is_open (process_at board me).opened y
   unfolding process_step
   step_sequences y ne =
       let l : Place = (process_at board me).place in

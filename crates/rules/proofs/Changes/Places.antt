@@ -4,7 +4,7 @@ use mathlib.Core.Bool.{Bool, true, false, cond, not, ◌&&◌}
 use Prim.Native.Nat.{ℕ}
 use Rattle.rules.specs.OwnSteps.{is_busy}
 use Rattle.rules.specs.Sizes.{word_at, header_at, segment_at, announce_at}
-use Rattle.rules.specs.Types.{Answer, Place, Idle, LoadReadsWord, ValidateReadsWord, StoreSwapsWord, LoadReadsHeader, ValidateReadsHeader, StoreReadsHeader, StoreAnnounces, StoreSwapsHeader, ReadsSegment, ReadsAnnounced, SwapsSegment, ReadsSegmentAgain, ReadsHeader, Settings}
+use Rattle.rules.specs.Types.{Reply, Place, Idle, LoadReadsWord, ValidateReadsWord, StoreSwapsWord, LoadReadsHeader, ValidateReadsHeader, StoreReadsHeader, StoreAnnounces, StoreSwapsHeader, ReadsSegment, ReadsAnnounced, SwapsSegment, ReadsSegmentAgain, ReadsHeader, Settings}
 
 -- the variable of the call
 abbrev pub variable_at : Place → ℕ
@@ -75,5 +75,5 @@ is_stores (ReadsSegmentAgain c) = not c.gathers
 is_stores (ReadsHeader c value) = not c.gathers
 
 -- a load opens (or reopens) its sequence at its first step, witness or not; a store closes it at its answer, yes or no
-abbrev pub open_after : Place → Answer → Bool → Bool
+abbrev pub open_after : Place → Reply → Bool → Bool
 open_after l answer before = cond (is_loads_first l) true (cond (not (is_busy answer) && is_stores l) false before)

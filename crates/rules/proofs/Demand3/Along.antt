@@ -15,7 +15,7 @@ use Rattle.rules.specs.OwnSteps.{Own, answer_of, taken, own_in}
 use Rattle.rules.specs.Refusals.{sizes_check, variable_of}
 use Rattle.rules.specs.Runs.{State, Event, begin, step, entry, after, fresh, run}
 use Rattle.rules.specs.Sizes.{bits}
-use Rattle.rules.specs.Types.{Answer, Begun, Busy, Value, Witness, Yes, No, AnswerRefused, Answered, Call, Fine, Process, Settings}
+use Rattle.rules.specs.Types.{Reply, Begun, Ok, Busy, Value, Witness, Yes, No, Err, Answered, Board, Call, Process, Settings}
 use Rattle.rules.proofs.Changes.Places.{variable_at}
 use Rattle.rules.proofs.Tests.{never}
 use Rattle.rules.proofs.Demand3.Called.{told, watched}
@@ -38,21 +38,15 @@ pub record Stood (s : Settings) (state : State) (seen : ℕ → Seen) : Type 0 w
 pub record Stepped (s : Settings) (state : State) (seen : ℕ → Seen) (me : ℕ) : Type 0 where
   pub stood : Stood s (after (step me) state) (watch_from (step me) state seen)
   pub right : RightAnswer (width s.kind s.w) me (watch_from (step me) state seen (variable_at (place_of state me))) (answer_of (step me) state)
-      (at_place (entry (step me) state).0.values)
   pub counts : taken (answer_of (step me) state) ≡ true → Counts me (watch_from (step me) state seen (variable_at (place_of state me))) (note_from (step me) state)
 
 -- of a refusal nothing is asked
-if_taken : (W p : ℕ) (o : Seen) (a : Answer) (g : ℕ → ℕ) → (taken a ≡ true → RightAnswer W p o a g) → RightAnswer W p o a g
-if_taken W p o Begun g h = h refl
-if_taken W p o Busy g h = h refl
-if_taken W p o Value g h = h refl
-if_taken W p o (Witness q) g h = h refl
-if_taken W p o Yes g h = h refl
-if_taken W p o No g h = h refl
-if_taken W p o (AnswerRefused r) g h = tt
+if_taken : (W p : ℕ) (o : Seen) (a : Reply) → (taken a ≡ true → RightAnswer W p o a) → RightAnswer W p o a
+if_taken W p o (Ok answer) h = h refl
+if_taken W p o (Err r) h = tt
 
 -- a step that answers so, if it is taken, is in a short sequence
-abbrev ShortBy : Settings → State → (ℕ → Seen) → ℕ → Answer → Type 0
+abbrev ShortBy : Settings → State → (ℕ → Seen) → ℕ → Reply → Type 0
 ShortBy s state seen me a =
     taken a ≡ true → sequence_at (place_of state me) ≡ true →
     length ((seen (variable_at (place_of state me))).since me) ≤ most_stores (bits s)
@@ -69,7 +63,7 @@ module _ (s : Settings) (z : Sized s) where
     abbrev state : State
     state = state_of s processes words
 
-    abbrev Follows : Answered × List ℕ → Type 0
+    abbrev Follows : Answered Board × List ℕ → Type 0
     Follows = StepFollows s z S.machine S.inv processes words seen S.means me
 
     step_by_lem : ShortStep s state seen me →
@@ -89,7 +83,7 @@ module _ (s : Settings) (z : Sized s) where
     abbrev state' : State
     state' = state_of s processes words
 
-    abbrev Begins : Answered → Type 0
+    abbrev Begins : Answered Board → Type 0
     Begins = BeginFollows s z S.machine S.inv processes words seen S.means me call
 
     begin_of : Stood s (after (begin me call values) state') (watch_from (begin me call values) state' seen)
@@ -113,7 +107,7 @@ module _ (s : Settings) (z : Sized s) where
       (λ S. begin_of state.board.processes state.words seen me call values S)
 
   -- a run
-  module _ (lent : List ℕ) (f : sizes_check s (length lent) ≡ Fine) where
+  module _ (lent : List ℕ) (f : sizes_check s (length lent) ≡ Ok tt) where
     abbrev start : State
     start = fresh s lent
 
@@ -162,11 +156,10 @@ module _ (s : Settings) (z : Sized s) where
           ap (λ (seen : ℕ → Seen). seen (variable_at (place_of before me))) (seen_step events me)
           ∙ ap (seen_in start (step me ∷ events)) (told s lent f events me g).variable
 
-      pub right_along : RightAnswer (width s.kind s.w) me seen_there (answer_of (step me) before) (at_place (entry (step me) before).0.values)
+      pub right_along : RightAnswer (width s.kind s.w) me seen_there (answer_of (step me) before)
       right_along =
-          if_taken (width s.kind s.w) me seen_there (answer_of (step me) before) (at_place (entry (step me) before).0.values)
-          (λ g. subst (λ (o : Seen). RightAnswer (width s.kind s.w) me o (answer_of (step me) before)
-          (at_place (entry (step me) before).0.values)) (as_told g) stepped.right)
+          if_taken (width s.kind s.w) me seen_there (answer_of (step me) before)
+          (λ g. subst (λ (o : Seen). RightAnswer (width s.kind s.w) me o (answer_of (step me) before)) (as_told g) stepped.right)
 
       pub counts_along : taken (answer_of (step me) before) ≡ true → Counts me seen_there (note_of s (step me) own (answer_of (step me) before))
       counts_along g =

@@ -14,7 +14,7 @@ use Rattle.rules.specs.Processes.{process_at}
 use Rattle.rules.specs.Refusals.{sizes_check, variable_of}
 use Rattle.rules.specs.Runs.{State, Event, step, fresh, run}
 use Rattle.rules.specs.Steps.{step_from, process_step}
-use Rattle.rules.specs.Types.{Answer, Board, Fine, Place, Idle, LoadReadsWord, ValidateReadsWord, StoreSwapsWord, LoadReadsHeader, ValidateReadsHeader, StoreReadsHeader, StoreAnnounces, StoreSwapsHeader, ReadsSegment, ReadsAnnounced, SwapsSegment, ReadsSegmentAgain, ReadsHeader, Process, Settings}
+use Rattle.rules.specs.Types.{Reply, Board, Ok, Place, Idle, LoadReadsWord, ValidateReadsWord, StoreSwapsWord, LoadReadsHeader, ValidateReadsHeader, StoreReadsHeader, StoreAnnounces, StoreSwapsHeader, ReadsSegment, ReadsAnnounced, SwapsSegment, ReadsSegmentAgain, ReadsHeader, Process, Settings}
 use Rattle.rules.proofs.Changes.Frame.{framed}
 use Rattle.rules.proofs.Changes.Places.{variable_at}
 use Rattle.rules.proofs.GoodForm.Held.{kind_one, kind_many, one_open, many_open, held, segment, segment_in, clauses}
@@ -27,7 +27,7 @@ use Rattle.rules.proofs.Calls.Told.{place_of, note_at, sequence_at, values_at, n
 use Rattle.rules.proofs.Demand3.Runs.{step_cases, state_of, as_parts, run_shaped}
 
 -- what its place and its new values tell of a step that is taken
-pub record ToldAs (s : Settings) (own : Own) (p : Process) (answer : Answer) : Type 0 where
+pub record ToldAs (s : Settings) (own : Own) (p : Process) (answer : Reply) : Type 0 where
   pub variable : variable_at p.place ≡ variable_of own.call
   pub sequence : sequence_at p.place ≡ in_sequence own.call own.steps
   pub note : note_at p.place (values_at p) answer ≡ note_by (before_swap s.kind s.w) own.call (new_values own) own.steps answer
@@ -73,7 +73,7 @@ told_by_lem s own processes words me h =
     })
     (λ r e. never (sym e))
 
-module _ (s : Settings) (lent : List ℕ) (ready : sizes_check s (length lent) ≡ Fine) where
+module _ (s : Settings) (lent : List ℕ) (ready : sizes_check s (length lent) ≡ Ok tt) where
   pub called : (events : List Event) (q : ℕ) → StandsIn s (own_in (fresh s lent) events q) (process_at (run (fresh s lent) events).board q)
   called =
       each_own s (StandsIn s)

@@ -21,7 +21,7 @@ use Rattle.rules.specs.Processes.{is_idle, is_open, nobody}
 use Rattle.rules.specs.Refusals.{variable_of, lacks_sequence}
 use Rattle.rules.specs.Sizes.{bits}
 use Rattle.rules.specs.Steps.{first_place, beginning, step_from, process_step}
-use Rattle.rules.specs.Types.{Answer, Begun, Busy, Value, Witness, Yes, No, AnswerRefused, Answered, Board, Call, Load, Validate, Store, Kind, One, Many, Process, Settings}
+use Rattle.rules.specs.Types.{Reply, Begun, Ok, Busy, Value, Witness, Yes, No, Err, Answered, Board, Call, Load, Validate, Store, Kind, One, Many, Process, Settings}
 use Rattle.rules.proofs.Changes.Frame.{framed}
 use Rattle.rules.proofs.Changes.Places.{variable_at}
 use Rattle.rules.proofs.GoodForm.Held as form
@@ -42,21 +42,21 @@ use Rattle.rules.proofs.Demand3.Runs as runs
 use Rattle.rules.proofs.Demand3.Means.{ProcessMeans, BoardMeans, alike}
 
 -- an answer of the board is right, by what was seen of its variable
-abbrev pub RightAnswer : ℕ → ℕ → Seen → Answer → (ℕ → ℕ) → Type 0
-RightAnswer W p o Begun g = Unit {0}
-RightAnswer W p o Busy g = Unit {0}
-RightAnswer W p o Value g = (o.since p ≡ []) × ((d : ℕ → ℕ) × (o.due p ≡ content d) × ((i : ℕ) → i < W → g i ≡ d i))
-RightAnswer W p o (Witness q) g = (m : List ℕ) × (o.since p ≡ q ∷ m)
-RightAnswer W p o Yes g = o.due p ≡ truth true
-RightAnswer W p o No g = (o.due p ≡ truth false) × Another p (o.since p)
-RightAnswer W p o (AnswerRefused r) g = Unit {0}
+abbrev pub RightAnswer : ℕ → ℕ → Seen → Reply → Type 0
+RightAnswer W p o (Ok Begun) = Unit {0}
+RightAnswer W p o (Ok Busy) = Unit {0}
+RightAnswer W p o (Ok (Value l)) = (o.since p ≡ []) × ((d : ℕ → ℕ) × (o.due p ≡ content d) × ((i : ℕ) → i < W → at_place l i ≡ d i))
+RightAnswer W p o (Ok (Witness q)) = (m : List ℕ) × (o.since p ≡ q ∷ m)
+RightAnswer W p o (Ok Yes) = o.due p ≡ truth true
+RightAnswer W p o (Ok No) = (o.due p ≡ truth false) × Another p (o.since p)
+RightAnswer W p o (Err r) = Unit {0}
 
-right_said : (W p : ℕ) (o : Seen) (l : List ℕ) (told : Told) (a : Answer) → Says W l told a → Right W p o told → RightAnswer W p o a (at_place l)
-right_said W p o l told a says_busy R = tt
-right_said W p o l told a (says_values f) R = (R.0, (R.1.0, R.1.1, λ i h. f i h ∙ R.1.2 i h))
-right_said W p o l told a (says_witness e) R = (R.0, rw e R.1)
-right_said W p o l told a says_yes R = R.0
-right_said W p o l told a says_no R = (R.0, R.1 refl)
+right_said : (W p : ℕ) (o : Seen) (told : Told) (a : Reply) → Says W told a → Right W p o told → RightAnswer W p o a
+right_said W p o told a says_busy R = tt
+right_said W p o told a (says_values f) R = (R.0, (R.1.0, R.1.1, λ i h. f i h ∙ R.1.2 i h))
+right_said W p o told a (says_witness e) R = (R.0, rw e R.1)
+right_said W p o told a says_yes R = R.0
+right_said W p o told a says_no R = (R.0, R.1 refl)
 
 -- the step of either kind
 link : (k : Kind) (s : Settings) → Sized s → (p x : ℕ) (vars : ℕ → Var) (rows : ℕ → ℕ → ℕ) (sequences : ℕ → Sequence)
@@ -98,7 +98,7 @@ module _ (s : Settings) (z : Sized s) (st : State) (I : Inv s.kind s.w st) (proc
   q = get_or processes me nobody
 
   -- what the onlooker saw, by an answer
-  abbrev sees : ℕ → Note → Answer → ℕ → Seen
+  abbrev sees : ℕ → Note → Reply → ℕ → Seen
   sees x note a = cond (taken a) (change seen x (see me note (seen x))) seen
 
   -- the process's own part is put back
@@ -109,10 +109,10 @@ module _ (s : Settings) (z : Sized s) (st : State) (I : Inv s.kind s.w st) (proc
       (λ p n l. rw (get_or-set_other processes me p q' nobody n) (R.process p l))
 
   -- a begin
-  pub record BeginFollows (call : Call) (a : Answered) : Type 0 where
+  pub record BeginFollows (call : Call) (a : Answered Board) : Type 0 where
     pub next : State
     pub inv : Inv s.kind s.w next
-    pub means : BoardMeans s next a.board.processes words (sees (variable_of call) begins a.answer)
+    pub means : BoardMeans s next a.after.processes words (sees (variable_of call) begins a.answer)
 
   pub begin_follows : (call : Call) (values : List ℕ) → Accepted board me words → Beginning s q call values →
       BeginFollows call (runs.begun board me call values)
@@ -150,14 +150,14 @@ module _ (s : Settings) (z : Sized s) (st : State) (I : Inv s.kind s.w st) (proc
   abbrev result : Step
   result = step_from q.place s q me words
 
-  abbrev sees_step : Answer → ℕ → Seen
+  abbrev sees_step : Reply → ℕ → Seen
   sees_step a = sees (variable_at q.place) (note_at q.place (values_at q) a) a
 
-  pub record StepFollows (a : Answered × List ℕ) : Type 0 where
+  pub record StepFollows (a : Answered Board × List ℕ) : Type 0 where
     pub next : State
     pub inv : Inv s.kind s.w next
-    pub means : BoardMeans s next a.0.board.processes a.1 (sees_step a.0.answer)
-    pub right : RightAnswer (width s.kind s.w) me (sees_step a.0.answer (variable_at q.place)) a.0.answer (at_place a.0.values)
+    pub means : BoardMeans s next a.0.after.processes a.1 (sees_step a.0.answer)
+    pub right : RightAnswer (width s.kind s.w) me (sees_step a.0.answer (variable_at q.place)) a.0.answer
     pub counts : taken a.0.answer ≡ true → Counts me (sees_step a.0.answer (variable_at q.place))
         (note_at q.place (values_at q) a.0.answer)
 
@@ -218,15 +218,15 @@ module _ (s : Settings) (z : Sized s) (st : State) (I : Inv s.kind s.w st) (proc
         next = apply st me there out;
         inv = machine_stepped s.kind s.w z.w_least st I me there refl;
         means = record {
-          sixteen = length-set processes me result.0.process ∙ R.sixteen;
+          sixteen = length-set processes me result.0.after ∙ R.sixteen;
           memory = put_kind s.kind s z st.vars st.rows words R.memory me there mn xt
               out.var core.put result.1 L.wrote refl refl;
-          process = put_process_lem result.0.process
+          process = put_process_lem result.0.after
               (record { at = there; place = core.place; sequences = change (st.procs me).sequences there core.sequence }) mn
               (record { stands = L.stands; held = L.held });
           as_seen = seen_same;
         };
         right = rw seen_there (right_said (width s.kind s.w) me out.var.seen
-            result.0.values core.told result.0.answer L.says fine_step.right);
+            core.told result.0.answer L.says fine_step.right);
         counts = λ g. rw (seen_there, L.note) fine_step.counts;
       }

@@ -15,7 +15,7 @@ use Rattle.rules.specs.Processes.{is_idle, nobody, process_at, put_process}
 use Rattle.rules.specs.Refusals.{sizes_check}
 use Rattle.rules.specs.Runs.{State, Event, begin, step, process_of, after, fresh, run}
 use Rattle.rules.specs.Steps.{beginning, step_from, process_step}
-use Rattle.rules.specs.Types.{Answered, Board, Call, Fine, Moved, Process, Settings}
+use Rattle.rules.specs.Types.{Answered, Board, Call, Ok, Process, Settings}
 use Rattle.rules.proofs.Changes.Frame.{framed}
 use Rattle.rules.proofs.GoodForm.Held.{clauses}
 use Rattle.rules.proofs.GoodForm.Keeps.{process_fits_lem}
@@ -34,7 +34,7 @@ module _ (s : Settings) (P : Own → Process → Type 0)
     (first : (call : Call) (values : List ℕ) (p : Process) → P (begins_own call values) (beginning s call values p))
     (next : (own : Own) (p : Process) (me : ℕ) (words : List ℕ) → place_fits s p.opened p.place ≡ true → is_idle p.place ≡ false
     → 1 ≤ s.w → P own p
-    → P (steps_own (step_from p.place s p me words).0.answer own) (step_from p.place s p me words).0.process) where
+    → P (steps_own (step_from p.place s p me words).0.answer own) (step_from p.place s p me words).0.after) where
   abbrev Each : (ℕ → Own) → Board → Type 0
   Each own board = (q : ℕ) → P (own q) (process_at board q)
 
@@ -50,9 +50,9 @@ module _ (s : Settings) (P : Own → Process → Type 0)
     abbrev board : Board
     board = (state_of s processes words).board
 
-    abbrev After : Event → Answered → Type 0
+    abbrev After : Event → Answered Board → Type 0
     After event a =
-        Each (cond (taken a.answer) (change own (process_of event) (counting event a.answer (own (process_of event)))) own) a.board
+        Each (cond (taken a.answer) (change own (process_of event) (counting event a.answer (own (process_of event)))) own) a.after
 
     room : {me : ℕ} → Accepted board me words → me < length processes
     room a = omega (arith, (sized s a.sizes.settings).n_most, a.mine)
@@ -70,11 +70,11 @@ module _ (s : Settings) (P : Own → Process → Type 0)
         step_cases (λ a. After (step me) a.0) board me words
         (λ a busy.
         let p : Process = process_at board me in
-        let moved : Moved = (step_from p.place s p me words).0 in
+        let moved : Answered Process = (step_from p.place s p me words).0 in
         let fits = (clauses s p (process_fits_lem board words a.good me a.mine)).place in
         let h = next (own me) p me words fits busy (sized s a.sizes.settings).w_least (o me) in
         rw (framed p.place s p me words busy).own.answers
-        (put_own own board me moved.process (steps_own moved.answer (own me)) (room a) h o))
+        (put_own own board me moved.after (steps_own moved.answer (own me)) (room a) h o))
         (λ r. o)
 
   -- any board of these settings
@@ -92,9 +92,10 @@ module _ (s : Settings) (P : Own → Process → Type 0)
       by (begin me call values) = begin_own own state.board.processes state.words h.sixteen me call values
       by (step me) = step_own own state.board.processes state.words h.sixteen me
 
-  pub each_own : (lent : List ℕ) → sizes_check s (length lent) ≡ Fine → P unbegun fresh_process → P unbegun nobody →
+  pub each_own : (lent : List ℕ) → sizes_check s (length lent) ≡ Ok tt → P unbegun fresh_process → P unbegun nobody →
       (events : List Event) → Each (own_in (fresh s lent) events) (run (fresh s lent) events).board
   unfolding run own_in
-  each_own lent ready f n [] q = rw (fresh_is s lent ready) (fresh_each (P unbegun) f n 16 q)
+  each_own lent ready f n [] q =
+      subst (λ (u : State). P unbegun (process_at u.board q)) (sym (fresh_is s lent ready)) (fresh_each (P unbegun) f n 16 q)
   each_own lent ready f n (event ∷ events) q =
       event_own (own_in (fresh s lent) events) (run (fresh s lent) events) (run_shaped s lent ready events) (each_own lent ready f n events) event q

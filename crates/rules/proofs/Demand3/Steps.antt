@@ -20,7 +20,8 @@ use Rattle.rules.specs.Refusals.{sizes_check, step_check}
 use Rattle.rules.specs.Runs.{Event, fresh, run}
 use Rattle.rules.specs.Sizes.{bits, word_of, header_of, segment_of}
 use Rattle.rules.specs.Steps.{first_place, step_from, process_step}
-use Rattle.rules.specs.Types.{Check, Fine, Copy, Board, Call, Load, Validate, Store, Kind, One, Many, Moved, Place, Idle, LoadReadsWord, ValidateReadsWord, StoreSwapsWord, LoadReadsHeader, ValidateReadsHeader, StoreReadsHeader, StoreAnnounces, StoreSwapsHeader, ReadsSegment, ReadsAnnounced, SwapsSegment, ReadsSegmentAgain, ReadsHeader, Process, Settings}
+use Rattle.rules.specs.Types.{Ok, Copy, Board, Call, Load, Validate, Store, Kind, One, Many, Answered, Process, Place, Idle, LoadReadsWord, ValidateReadsWord, StoreSwapsWord, LoadReadsHeader, ValidateReadsHeader, StoreReadsHeader, StoreAnnounces, StoreSwapsHeader, ReadsSegment, ReadsAnnounced, SwapsSegment, ReadsSegmentAgain, ReadsHeader, Settings}
+use Rattle.rules.specs.Refusals.{Check}
 use Rattle.rules.proofs.Tests.{never}
 use Rattle.rules.proofs.GoodForm.Held.{segment_in}
 use Rattle.rules.proofs.Refusals.Checked.{step_accepted}
@@ -50,20 +51,20 @@ left w (ReadsHeader c value) = 5 * (w - suc c.segment) + 1
 
 -- a step brings its process nearer the end
 abbrev Nearer : ℕ → Place → Step → Type 0
-Nearer w place r = left w r.0.process.place < left w place
+Nearer w place r = left w r.0.after.place < left w place
 
 module _ (s : Settings) (p : Process) (me : ℕ) (words : List ℕ) (pos : 1 ≤ s.w) where
   -- the rest of Copy
   on : (c : Copy) (value : ℕ) (q : Process) → Nearer s.w (ReadsHeader c value) (copy_on s c q, words)
   on c value q =
-      branch (λ (r : Moved). Nearer s.w (ReadsHeader c value) (r, words)) (ltb (c.segment + 1) s.w) _ _
+      branch (λ (r : Answered Process). Nearer s.w (ReadsHeader c value) (r, words)) (ltb (c.segment + 1) s.w) _ _
       (λ e. omega (arith, ltb-true (c.segment + 1) s.w e))
-      (λ e. both_arms (λ (r : Moved). Nearer s.w (ReadsHeader c value) (r, words)) c.gathers _ _
+      (λ e. both_arms (λ (r : Answered Process). Nearer s.w (ReadsHeader c value) (r, words)) c.gathers _ _
       (omega arith) (omega arith))
 
   short : (c : Copy) (value header : ℕ) → Nearer s.w (ReadsHeader c value) (copy_cut_short s c header p, words)
   short c value header =
-      both_arms (λ (r : Moved). Nearer s.w (ReadsHeader c value) (r, words)) c.gathers _ _
+      both_arms (λ (r : Answered Process). Nearer s.w (ReadsHeader c value) (r, words)) c.gathers _ _
       (omega arith) (omega arith)
 
   announced : (x header j : ℕ) → j < s.w → (t : Bool) → ltb (j + 1) s.w ≡ t →
@@ -114,7 +115,7 @@ first_timed Many w (Load x) = omega arith
 first_timed Many w (Validate x) = omega arith
 first_timed Many w (Store x) = omega arith
 
-timed : (s : Settings) (lent : List ℕ) → sizes_check s (length lent) ≡ Fine → (events : List Event) (q : ℕ) →
+timed : (s : Settings) (lent : List ℕ) → sizes_check s (length lent) ≡ Ok tt → (events : List Event) (q : ℕ) →
     Timed s (own_in (fresh s lent) events q) (process_at (run (fresh s lent) events).board q)
 timed s lent ready =
     each_own s (Timed s)
@@ -140,7 +141,7 @@ some_left w (ReadsSegmentAgain c) i = omega arith
 some_left w (ReadsHeader c value) i = omega arith
 
 -- a step whose check passes is taken
-passes : (board : Board) (me : ℕ) (words : List ℕ) → step_check board me words ≡ Fine → taken (step_rule board me words).0.answer ≡ true
+passes : (board : Board) (me : ℕ) (words : List ℕ) → step_check board me words ≡ Ok tt → taken (step_rule board me words).0.answer ≡ true
 unfolding step_rule process_step
 passes board me words e =
     let a = step_accepted board me words e in
@@ -148,7 +149,7 @@ passes board me words e =
     subst (λ (k : Check). taken (step_by k board me words).0.answer ≡ true) (sym e)
     (framed p.place board.settings p me words a.1).own.answers
 
-abbrev fine_of : (t : Turn) → sizes_check t.settings (length t.lent) ≡ Fine
+abbrev fine_of : (t : Turn) → sizes_check t.settings (length t.lent) ≡ Ok tt
 fine_of t = ready_fine t.settings t.lent t.ready
 
 sum_of : (t : Turn) → (own t).steps + left t.settings.w (place_of (before t) t.me) ≤ most_steps t.settings (own t).call

@@ -16,7 +16,7 @@ use Rattle.rules.specs.Processes.{is_idle, process_at}
 use Rattle.rules.specs.Refusals.{sizes_check}
 use Rattle.rules.specs.Runs.{State, Event, begin, step, process_of, fresh, run}
 use Rattle.rules.specs.Sizes.{bits}
-use Rattle.rules.specs.Types.{Answer, Fine, Process, Settings}
+use Rattle.rules.specs.Types.{Reply, Ok, Process, Settings}
 use Rattle.rules.proofs.GoodForm.Held.{clauses, place_in}
 use Rattle.rules.proofs.GoodForm.Keeps.{process_fits_lem}
 use Rattle.rules.proofs.Sizes.Sized.{sized}
@@ -41,7 +41,7 @@ more p checks o = omega arith
 more p (stores new true) o = omega arith
 more p (stores new false) o = omega arith
 
-grows : (s : Settings) (event : Event) (answer : Answer) (own : Own) (seen : ℕ → Seen) (y : ℕ)
+grows : (s : Settings) (event : Event) (answer : Reply) (own : Own) (seen : ℕ → Seen) (y : ℕ)
     → (seen y).total ≤ (watch s event answer own seen y).total
 grows s event answer own seen y = by (taken answer)
   where
@@ -97,7 +97,7 @@ module _ (s : Settings) (z : Sized s) where
       ))
       (λ r g. never (sym g))
 
-  short_of_few : (lent : List ℕ) → sizes_check s (length lent) ≡ Fine → (events : List Event) →
+  short_of_few : (lent : List ℕ) → sizes_check s (length lent) ≡ Ok tt → (events : List Event) →
       ((x : ℕ) → x < s.t → (seen_in (fresh s lent) events x).total ≤ most_stores (bits s)) → AllShort (fresh s lent) (bits s) events
   unfolding AllShort
   short_of_few lent f [] F = tt
@@ -122,5 +122,5 @@ module _ (s : Settings) (z : Sized s) where
 pub window_of_few : (t : Turn) → Few t → InWindow t
 window_of_few t F =
     let s : Settings = t.settings in
-    let f : sizes_check s (length t.lent) ≡ Fine = ready_fine s t.lent t.ready in
+    let f : sizes_check s (length t.lent) ≡ Ok tt = ready_fine s t.lent t.ready in
     short_of_few s (sized s (stands s t.lent f).settings) t.lent f (step t.me ∷ t.events) F

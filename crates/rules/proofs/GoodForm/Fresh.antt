@@ -11,6 +11,7 @@ use lib.ListN.{length, get_or, drop, replicate, length-append, length-drop, leng
 use lib.Pow.{pow_pos}
 use lib.Seq.{get_or-append-add, get_or-drop}
 use Rattle.word.specs.Word.{tag_limit, value_limit, value_of}
+use Rattle.std.specs.Prelude.{IsOkAnd}
 use Rattle.rules.specs.Bounds.{Sized}
 use Rattle.rules.specs.Entry.{fresh_process, fresh_board, fresh_words, set_up_rule, set_up_by}
 use Rattle.rules.specs.GoodForm.{names, value_fits, kept_fit, kept_fit_by, open_fits, process_fits, processes_fit, words_fit, words_fit_by, headers_fit, row_fits, rows_fit, in_good_form}
@@ -21,7 +22,8 @@ use Rattle.rules.proofs.Refusals.Checked.{stands}
 use Rattle.rules.proofs.Sizes.Addresses.{header_in, announce_in}
 use Rattle.rules.proofs.GoodForm.Held.{in_form_lem}
 use Rattle.rules.specs.InForm.{Formed, Sound, Clean, InForm}
-use Rattle.rules.specs.Types.{Check, Fine, Kind, One, Many, Settings}
+use Rattle.rules.specs.Types.{Ok, Kind, One, Many, Settings}
+use Rattle.rules.specs.Refusals.{Check}
 use Rattle.rules.proofs.Sizes.Sized.{sized}
 use Rattle.rules.proofs.GoodForm.Sounds.{zero_fits, no_values_fit}
 use Rattle.rules.proofs.Tests.{and_both, all_of}
@@ -119,14 +121,14 @@ fresh_in_form s words z =
     at i h = get_or-replicate 16 i fresh_process nobody h
 
 -- at the entry point: an accepted set-up gives the fresh board, in good form
-pub set_up_accepted : (s : Settings) (words : List ℕ) → sizes_check s (length words) ≡ Fine
-    → set_up_rule s words ≡ set_up_by Fine s words
+pub set_up_accepted : (s : Settings) (words : List ℕ) → sizes_check s (length words) ≡ Ok tt
+    → set_up_rule s words ≡ set_up_by (Ok tt) s words
 unfolding set_up_rule
 set_up_accepted s words e = ap (λ (c : Check). set_up_by c s words) e
 
-pub set_up_in_form : (s : Settings) (words : List ℕ) → sizes_check s (length words) ≡ Fine
-    → InForm (set_up_rule s words).0.board (set_up_rule s words).1
+pub set_up_in_form : (s : Settings) (words : List ℕ) → sizes_check s (length words) ≡ Ok tt
+    → IsOkAnd (set_up_rule s words).0 (λ board. InForm board (set_up_rule s words).1)
 unfolding set_up_rule
 set_up_in_form s words e =
-    subst (λ (c : Check). InForm (set_up_by c s words).0.board (set_up_by c s words).1) (sym e)
+    subst (λ (c : Check). IsOkAnd (set_up_by c s words).0 (λ board. InForm board (set_up_by c s words).1)) (sym e)
     (fresh_in_form s words (sized s (stands s words e).settings))

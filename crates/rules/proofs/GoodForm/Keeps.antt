@@ -16,7 +16,8 @@ use Rattle.rules.proofs.Branches.{after_set}
 use Rattle.rules.proofs.GoodForm.Held.{clauses, in_form_lem}
 use Rattle.rules.proofs.GoodForm.Kept.{kept}
 use Rattle.rules.specs.InForm.{Formed, Shaped, Sound, Clean, InForm}
-use Rattle.rules.specs.Types.{Board, Call, Check, Fine, Process}
+use Rattle.rules.specs.Types.{Board, Call, Ok, Process}
+use Rattle.rules.specs.Refusals.{Check}
 use Rattle.rules.proofs.Sizes.Sized.{sized}
 use Rattle.rules.proofs.Tests.{and_left, and_right, and_both, all_at, all_of}
 
@@ -61,7 +62,7 @@ module _ (board : Board) (words : List ℕ) (h : InForm board words) where
 
 -- an accepted step or begin, whose check found good form, leaves good form
 module _ (board : Board) (me : ℕ) (words : List ℕ) (shaped : Shaped board words) where
-  pub step_keeps : step_check board me words ≡ Fine → InForm (step_rule board me words).0.board (step_rule board me words).1
+  pub step_keeps : step_check board me words ≡ Ok tt → InForm (step_rule board me words).0.after (step_rule board me words).1
   unfolding step_rule process_step
   step_keeps e =
       let ok = (step_accepted board me words e).0 in
@@ -70,11 +71,11 @@ module _ (board : Board) (me : ℕ) (words : List ℕ) (shaped : Shaped board wo
       let sound = sound_process board words h z.n_most me ok.mine in
       let after = kept board.settings z _ me ok.mine words sound (clean_words board words h)
       (process_at board me).place sound.form.place sound.shape.header in
-      subst (λ (c : Check). InForm (step_by c board me words).0.board (step_by c board me words).1) (sym e)
+      subst (λ (c : Check). InForm (step_by c board me words).0.after (step_by c board me words).1) (sym e)
       (put_back board words h z.n_most me ok.mine _ _ after.process after.words)
 
-  pub begin_keeps : (call : Call) (values : List ℕ) → begin_check board me call values words ≡ Fine
-      → InForm (begin_rule board me call values words).board words
+  pub begin_keeps : (call : Call) (values : List ℕ) → begin_check board me call values words ≡ Ok tt
+      → InForm (begin_rule board me call values words).after words
   unfolding begin_rule
   begin_keeps call values e =
       let both = begin_accepted board me call values words e in
@@ -82,5 +83,5 @@ module _ (board : Board) (me : ℕ) (words : List ℕ) (shaped : Shaped board wo
       let z = sized board.settings ok.sizes.settings in
       let h : InForm board words = record { good = ok.good; shaped = shaped } in
       let sound = sound_process board words h z.n_most me ok.mine in
-      subst (λ (c : Check). InForm (begin_by c board me call values).board words) (sym e)
+      subst (λ (c : Check). InForm (begin_by c board me call values).after words) (sym e)
       (put_back board words h z.n_most me ok.mine _ words (begins _ _ call values sound both.1) (clean_words board words h))

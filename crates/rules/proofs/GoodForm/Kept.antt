@@ -23,13 +23,13 @@ use Rattle.rules.proofs.Sequences.Closing.{opening_opens}
 use Rattle.rules.proofs.Changes.Frame.{saves}
 use Rattle.rules.proofs.GoodForm.Held as held
 use Rattle.rules.specs.InForm.{held_header, Sound, Clean}
-use Rattle.rules.specs.Types.{Copy, Many, Moved, Place, Idle, LoadReadsWord, ValidateReadsWord, StoreSwapsWord, LoadReadsHeader, ValidateReadsHeader, StoreReadsHeader, StoreAnnounces, StoreSwapsHeader, ReadsSegment, ReadsAnnounced, SwapsSegment, ReadsSegmentAgain, ReadsHeader, Process, Settings}
+use Rattle.rules.specs.Types.{Copy, Many, Answered, Process, Place, Idle, LoadReadsWord, ValidateReadsWord, StoreSwapsWord, LoadReadsHeader, ValidateReadsHeader, StoreReadsHeader, StoreAnnounces, StoreSwapsHeader, ReadsSegment, ReadsAnnounced, SwapsSegment, ReadsSegmentAgain, ReadsHeader, Settings}
 use Rattle.rules.proofs.GoodForm.Sounds as sounds
 use Rattle.rules.proofs.Tests.{and_left, and_both}
 use Rattle.rules.proofs.GoodForm.Written.{header_names, announced_fits, header_bounded, write_one, write_many}
 
 pub record Kept (s : Settings) (step : Step) : Type 0 where
-  pub process : Sound s step.0.process
+  pub process : Sound s step.0.after
   pub words : Clean s step.1
 
 module _ (s : Settings) (z : Sized s) (p : Process) (me : ℕ) (mine : me < s.n) (words : List ℕ)
@@ -192,16 +192,16 @@ module _ (s : Settings) (z : Sized s) (p : Process) (me : ℕ) (mine : me < s.n)
     read_again = record { process = to_header _ (value_lt (bits s) _); words = clean }
 
     -- a load ends, or a store, which closes its sequence
-    ends_call : (q : Process) → Sound s q → (one two : Moved) → one.process ≡ at Idle q
-        → two.process ≡ at Idle (closing c.variable q) → Sound s (cond c.gathers one two).process
+    ends_call : (q : Process) → Sound s q → (one two : Answered Process) → one.after ≡ at Idle q
+        → two.after ≡ at Idle (closing c.variable q) → Sound s (cond c.gathers one two).after
     ends_call q sq one two e f =
-        both_arms (λ (m : Moved). Sound s m.process) c.gathers one two
+        both_arms (λ (m : Answered Process). Sound s m.after) c.gathers one two
         (subst (Sound s) (sym e) (sounds.idles s q sq)) (subst (Sound s) (sym f) (sounds.shuts s q sq c.variable))
 
-    goes_on_lem : (q : Process) → Sound s q → q.opened ≡ p.opened → Sound s (copy_on s c q).process
+    goes_on_lem : (q : Process) → Sound s q → q.opened ≡ p.opened → Sound s (copy_on s c q).after
     goes_on_lem q sq same =
         let held_in_q = subst (λ (m : ℕ). segment_held s m c.variable c.header c.segment ≡ true) (sym same) ok in
-        branch (λ (m : Moved). Sound s m.process) (ltb (c.segment + 1) s.w) _ _
+        branch (λ (m : Answered Process). Sound s m.after) (ltb (c.segment + 1) s.w) _ _
         (λ e. sounds.moves s q sq (ReadsSegment _)
         (next_held q.opened c.variable c.header c.segment (c.segment + 1) held_in_q (ltb-true _ _ e)) small)
         (λ e. ends_call q sq _ _ refl refl)
@@ -213,7 +213,7 @@ module _ (s : Settings) (z : Sized s) (p : Process) (me : ℕ) (mine : me < s.n)
         (record { process = ends_call p sound _ _ refl refl; words = clean })
 
   pub kept : (l : Place) → place_fits s p.opened l ≡ true → held_header l < 2 ^ 64 → Kept s (step_from l s p me words)
-  kept Idle ok small = record { process = sounds.idles s p sound; words = clean }
+  kept Idle ok small = record { process = sound; words = clean }
   kept (LoadReadsWord x) ok small = load_word x ok
   kept (ValidateReadsWord x) ok small = record { process = sounds.idles s p sound; words = clean }
   kept (StoreSwapsWord x) ok small = store_word x ok

@@ -5,14 +5,13 @@ use mathlib.Core.Bool.{Bool, true, false}
 use mathlib.Core.List.{List}
 use Prim.Native.Nat.{ℕ}
 use lib.Seq.{set-get_or}
-use Rattle.rules.specs.Entry.{refusing, step_by, step_rule, stepped}
+use Rattle.rules.specs.Entry.{step_by, step_rule, stepped}
 use Rattle.rules.specs.Figure4.{Step}
-use Rattle.rules.specs.Processes.{at, is_idle, nobody, process_at, put_process, no_values}
+use Rattle.rules.specs.Processes.{is_idle, nobody, process_at, put_process, refusing}
 use Rattle.rules.specs.Refusals.{refuse_if, process_check, step_check}
 use Rattle.rules.specs.Steps.{step_from, process_step}
-use Rattle.rules.specs.declared.Answer.TheVariants.{Refused}
 use Rattle.rules.specs.declared.Board.{Board}
-use Rattle.rules.specs.declared.Check.TheVariants.{Fine}
+use Rattle.std.specs.Prelude.{Ok, Err}
 use Rattle.rules.specs.declared.Place.{Place}
 use Rattle.rules.specs.declared.Place.TheVariants.{Idle, LoadReadsWord, ValidateReadsWord, StoreSwapsWord, LoadReadsHeader, ValidateReadsHeader, StoreReadsHeader, StoreAnnounces, StoreSwapsHeader, ReadsSegment, ReadsAnnounced, SwapsSegment, ReadsSegmentAgain, ReadsHeader}
 use Rattle.rules.specs.declared.Process.{Process}
@@ -37,12 +36,9 @@ idle_place (ReadsHeader c value) e = cc
 
 -- an idle process takes no step, and is left as found
 pub idle_step : (s : Settings) (p : Process) (me : ℕ) (words : List ℕ) → is_idle p.place ≡ true
-    → ◌≡◌ {A = Step} (process_step s p me words) (record { process = p; answer = Refused ProcessIdle; values = no_values }, words)
+    → process_step s p me words ≡ (refusing p ProcessIdle, words)
 unfolding process_step
-idle_step s p me words e =
-    let idle = idle_place p.place e in
-    ap (λ (l : Place). step_from l s p me words) idle
-    ∙ ap (λ (l : Place). (record { process = at l p; answer = Refused ProcessIdle; values = no_values }, words)) (sym idle)
+idle_step s p me words e = ap (λ (l : Place). step_from l s p me words) (idle_place p.place e)
 
 -- a process that was not moved, put back, changes nothing
 pub same_board : (board : Board) (me : ℕ) → put_process board me (process_at board me) ≡ board
@@ -53,12 +49,12 @@ module _ (board : Board) (me : ℕ) (words : List ℕ) where
   abbrev own_step : Step
   own_step = process_step board.settings (process_at board me) me words
 
-  pub step_served : process_check board me words ≡ Fine → step_rule board me words ≡ stepped board me own_step
+  pub step_served : process_check board me words ≡ Ok tt → step_rule board me words ≡ stepped board me own_step
   unfolding step_rule step_check
   step_served e = rw e (by (is_idle (process_at board me).place) refl)
     where
       by : (t : Bool) → is_idle (process_at board me).place ≡ t
-          → step_by (refuse_if t ProcessIdle Fine) board me words ≡ stepped board me own_step
+          → step_by (refuse_if t ProcessIdle (Ok tt)) board me words ≡ stepped board me own_step
       by true idle =
           ap (λ (b : Board). (refusing b ProcessIdle, words)) (sym (same_board board me))
           ∙ ap (stepped board me) (sym (idle_step board.settings (process_at board me) me words idle))

@@ -10,14 +10,14 @@ use Rattle.rules.specs.Processes.{process_at}
 use Rattle.rules.specs.Refusals.{sizes_check, process_check}
 use Rattle.rules.specs.Sizes.{words_used}
 use Rattle.rules.specs.declared.Board.{Board}
-use Rattle.rules.specs.declared.Check.TheVariants.{Fine}
+use Rattle.std.specs.Prelude.{Ok}
 use Rattle.rules.specs.declared.Settings.{Settings}
 use Rattle.rules.proofs.Refusals.Checked.{stands, accepted}
 use Rattle.rules.proofs.GoodForm.Keeps.{process_fits_lem}
 use Rattle.rules.proofs.Sizes.Sized.{sized}
 
 -- 1 and 2 are passed
-pub sizes_served : (s : Settings) (words : List ℕ) → sizes_check s (length words) ≡ Fine → Sized s × (words_used s ≤ length words)
+pub sizes_served : (s : Settings) (words : List ℕ) → sizes_check s (length words) ≡ Ok tt → Sized s × (words_used s ≤ length words)
 sizes_served s words e = let both = stands s words e in (sized s both.settings, both.room)
 
 pub record Served (board : Board) (me : ℕ) (words : List ℕ) : Type 0 where
@@ -26,7 +26,7 @@ pub record Served (board : Board) (me : ℕ) (words : List ℕ) : Type 0 where
   pub known : me < board.settings.n
   pub process : process_fits board.settings (process_at board me) ≡ true
 
-pub served : (board : Board) (me : ℕ) (words : List ℕ) → process_check board me words ≡ Fine → Served board me words
+pub served : (board : Board) (me : ℕ) (words : List ℕ) → process_check board me words ≡ Ok tt → Served board me words
 served board me words e =
     let all = accepted board me words e in
     record {

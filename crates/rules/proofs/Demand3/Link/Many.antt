@@ -148,7 +148,7 @@ module _ (s : Settings) (z : Sized s) (p x : ℕ) (v : Var) (rows : ℕ → ℕ 
       held = same_held;
       wrote = refl;
       says = rw (← (tag_agrees validate_reads (P.seq P.doing) (B refl)))
-          (says_sure s.w no_values (eqb (tag_of (bits s) (header_of s x words)) (kept_of x q)));
+          (says_sure s.w (eqb (tag_of (bits s) (header_of s x words)) (kept_of x q)));
       note = refl;
     }
     link_many place stand at_store i f P B =

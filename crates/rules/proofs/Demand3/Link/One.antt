@@ -9,7 +9,7 @@ use lib.ListN.{length, get_or}
 use Rattle.word.specs.Word.{tag_of, value_of, next_tag, tag_limit, value_limit}
 use Rattle.rules.specs.Bounds.{Sized}
 use Rattle.rules.specs.Figure4.{Step, new_word}
-use Rattle.rules.specs.Processes.{is_idle, kept_of, no_values}
+use Rattle.rules.specs.Processes.{is_idle, kept_of}
 use Rattle.rules.specs.Sizes.{bits, word_of}
 use Rattle.rules.specs.Steps.{step_from}
 use Rattle.rules.specs.Types.{One, Place, StoreSwapsWord, Process, Settings}
@@ -59,7 +59,7 @@ module _ (s : Settings) (z : Sized s) (p x : ℕ) (v : Var) (rows : ℕ → ℕ 
     stands = one_idle;
     held = held_same One s sequences q.keep q.opened H x;
     wrote = refl;
-    says = rw (← (test (P.seq P.doing) (B refl))) (says_sure 1 no_values (eqb (word_of x words) (kept_of x q)));
+    says = rw (← (test (P.seq P.doing) (B refl))) (says_sure 1 (eqb (word_of x words) (kept_of x q)));
     note = refl;
   }
   link_one place stand one_store i P B =

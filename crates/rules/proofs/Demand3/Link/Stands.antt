@@ -8,7 +8,7 @@ use lib.ListN.{length, get_or}
 use Rattle.rules.specs.Figure2.{change}
 use Rattle.rules.specs.Figure4.{Step}
 use Rattle.rules.specs.Sizes.{bits}
-use Rattle.rules.specs.Types.{Answer, Busy, Value, Witness, Yes, No, Copy, Kind, One, Many, Place, Idle, LoadReadsWord, ValidateReadsWord, StoreSwapsWord, LoadReadsHeader, ValidateReadsHeader, StoreReadsHeader, StoreAnnounces, StoreSwapsHeader, ReadsSegment, ReadsAnnounced, SwapsSegment, ReadsSegmentAgain, ReadsHeader, Process, Settings}
+use Rattle.rules.specs.Types.{Reply, Busy, Ok, Value, Witness, Yes, No, Copy, Kind, One, Many, Place, Idle, LoadReadsWord, ValidateReadsWord, StoreSwapsWord, LoadReadsHeader, ValidateReadsHeader, StoreReadsHeader, StoreAnnounces, StoreSwapsHeader, ReadsSegment, ReadsAnnounced, SwapsSegment, ReadsSegmentAgain, ReadsHeader, Process, Settings}
 use Rattle.rules.proofs.Demand3.Invariant.Kinds.{width}
 use Rattle.rules.proofs.Calls.Told.{note_at, values_at}
 use Rattle.rules.proofs.Demand3.Invariant.Many.{is_load}
@@ -61,22 +61,22 @@ StandsK One b x new gathered place stand = StandsOne x new place stand
 StandsK Many b x new gathered place stand = Stands b x new gathered place stand
 
 -- the board answers what the machine tells
-pub data Says (W : ℕ) (l : List ℕ) : Told → Answer → Type 0 where
-  says_busy : Says W l busy Busy
-  says_values : {g : ℕ → ℕ} → ((i : ℕ) → i < W → get_or l i 0 ≡ g i) → Says W l (values g) Value
-  says_witness : {q r : ℕ} → r ≡ q → Says W l (witness q) (Witness r)
-  says_yes : Says W l (sure true) Yes
-  says_no : Says W l (sure false) No
+pub data Says (W : ℕ) : Told → Reply → Type 0 where
+  says_busy : Says W busy (Ok Busy)
+  says_values : {g : ℕ → ℕ} {l : List ℕ} → ((i : ℕ) → i < W → get_or l i 0 ≡ g i) → Says W (values g) (Ok (Value l))
+  says_witness : {q r : ℕ} → r ≡ q → Says W (witness q) (Ok (Witness r))
+  says_yes : Says W (sure true) (Ok Yes)
+  says_no : Says W (sure false) (Ok No)
 
-pub says_sure : (W : ℕ) (l : List ℕ) (t : Bool) → Says W l (sure t) (cond t Yes No)
-says_sure W l true = says_yes
-says_sure W l false = says_no
+pub says_sure : (W : ℕ) (t : Bool) → Says W (sure t) (Ok (cond t Yes No))
+says_sure W true = says_yes
+says_sure W false = says_no
 
 -- a step of the board by process p from a place, at variable x, is the machine's step c
 pub record Linked (k : Kind) (s : Settings) (p x : ℕ) (place : Place) (q : Process) (words : List ℕ) (sequences : ℕ → Sequence)
     (r : Step) (c : Core) : Type 0 where
-  pub stands : StandsK k (bits s) x r.0.process.values r.0.process.gathered r.0.process.place c.place
-  pub held : Held k s (change sequences x c.sequence) r.0.process.keep r.0.process.opened
+  pub stands : StandsK k (bits s) x r.0.after.values r.0.after.gathered r.0.after.place c.place
+  pub held : Held k s (change sequences x c.sequence) r.0.after.keep r.0.after.opened
   pub wrote : WroteK k s p x c.put words r.1
-  pub says : Says (width k s.w) r.0.values c.told r.0.answer
+  pub says : Says (width k s.w) c.told r.0.answer
   pub note : note_at place (values_at q) r.0.answer ≡ c.note
