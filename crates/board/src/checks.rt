@@ -1,53 +1,50 @@
 // What each entry point checks of a board before all else, in document 01's order; each check finds the first refusal
 // that holds.
-ghost use Rattle.std.specs.Prelude.{◌≡◌, not, ◌≤◌, leb, length};
+ghost use Rattle.std.specs.Prelude.{◌≡◌, not, ◌≤◌, nat_le, length};
 ghost use Rattle.rules.specs.Bounds.{Sized};
 ghost use Rattle.rules.specs.GoodForm.{in_good_form};
-ghost use Rattle.rules.specs.Refusals.{refuse_if, sizes_check, process_check};
+ghost use Rattle.rules.specs.Refusals.{fine, refuse_if, sizes_check, process_check};
 ghost use Rattle.rules.specs.Sizes.{words_used};
-ghost use Rattle.rules.specs.declared.Check.TheVariants.{Fine};
 ghost use Rattle.word.specs.declared.Refusal.TheVariants.{NotInGoodForm, NoSuchProcess};
 
 use form::{in_good_form, settings_fit, words_used};
-use rules::{Board, Check, Settings};
+use rules::{Board, Settings};
 use word::Refusal;
 
 // 1 and 2, for so many words lent.
-pub(crate) fn sizes_check(s: Settings, lent: usize) -> Check
+#[tactic(auto, using(rules::proofs::Sizes::Sized::sized), unfolding(rules::specs::Refusals::sizes_check))]
+pub(crate) fn sizes_check(s: Settings, lent: usize) -> Result<(), Refusal>
     ensures { result ≡ sizes_check s lent }
 {
     if !settings_fit(s) {
-        return Check::Refused(Refusal::SettingOutsideSizes);
+        return Err(Refusal::SettingOutsideSizes);
     }
     if lent < words_used(s) {
-        return Check::Refused(Refusal::MemoryTooShort);
+        return Err(Refusal::MemoryTooShort);
     }
-    Check::Fine
+    Ok(())
 }
 
 // 3 and 4, of a board whose sizes stand.
-fn form_check(board: Board, me: usize, mem: &[u64]) -> Check
+fn form_check(board: Board, me: usize, mem: &[u64]) -> Result<(), Refusal>
     requires { Sized board.settings × (words_used board.settings ≤ length mem.now) }
-    ensures { result ≡ refuse_if (not (in_good_form board mem.now)) NotInGoodForm (refuse_if (leb board.settings.n me) NoSuchProcess Fine) }
+    ensures { result ≡ refuse_if (not (in_good_form board mem.now)) NotInGoodForm (refuse_if (nat_le board.settings.n me) NoSuchProcess fine) }
 {
     let s = board.settings;
     if !in_good_form(board, mem) {
-        return Check::Refused(Refusal::NotInGoodForm);
+        return Err(Refusal::NotInGoodForm);
     }
     if me >= s.n {
-        return Check::Refused(Refusal::NoSuchProcess);
+        return Err(Refusal::NoSuchProcess);
     }
-    Check::Fine
+    Ok(())
 }
 
 // 1 to 4.
-pub(crate) fn process_check(board: Board, me: usize, mem: &[u64]) -> Check
+#[tactic(auto, using(rules::proofs::Refusals::Served::sizes_served), unfolding(rules::specs::Refusals::process_check))]
+pub(crate) fn process_check(board: Board, me: usize, mem: &[u64]) -> Result<(), Refusal>
     ensures { result ≡ process_check board me mem.now }
 {
-    let s = board.settings;
-    let sizes = sizes_check(s, mem.len());
-    match sizes {
-        Check::Fine => form_check(board, me, mem),
-        Check::Refused(refusal) => Check::Refused(refusal),
-    }
+    sizes_check(board.settings, mem.len())?;
+    form_check(board, me, mem)
 }

@@ -1,12 +1,13 @@
-// Set-up: a fresh board has every word and keep-word 0, every process idle and no sequence open; a refused one is blank.
-ghost use Rattle.std.specs.Prelude.{◌≡◌, List, ◌++◌, ℕ, ◌≤◌, length, replicate, drop};
+// Set-up: a fresh board has every word and keep-word 0, every process idle and no sequence open.
+ghost use Rattle.std.specs.Prelude.{◌≡◌, List, ◌++◌, ℕ, ◌≤◌, length, replicate, drop, Result};
 ghost use Rattle.rules.specs.Entry.{fresh_process, fresh_board, blank_board, set_up_rule};
-ghost use Rattle.rules.specs.declared.SetUp.{SetUp};
+ghost use Rattle.rules.specs.declared.Board.{Board};
+ghost use Rattle.word.specs.declared.Refusal.{Refusal};
 
 use crate::checks::sizes_check;
 use form::words_used;
-use rules::{Board, Check, Kind, Place, Process, SetUp, Settings, Start};
-use word::Layout;
+use rules::{Board, Kind, Place, Process, Settings};
+use word::{Layout, Refusal};
 
 fn fresh_process() -> Process
     ensures { result ≡ fresh_process }
@@ -56,26 +57,11 @@ fn clear(used: usize, mem: &mut [u64])
     }
 }
 
-#[tactic(auto, using(rules::proofs::Refusals::Served::sizes_served))]
-pub fn set_up(s: Settings, mem: &mut [u64]) -> SetUp
-    ensures { ◌≡◌ {A = SetUp × List ℕ} (result, mem.new) (set_up_rule s mem.old) }
+#[tactic(auto, using(rules::proofs::Refusals::Served::sizes_served), unfolding(rules::specs::Entry::set_up_rule))]
+pub fn set_up(s: Settings, mem: &mut [u64]) -> Result<Board, Refusal>
+    ensures { ◌≡◌ {A = Result Board Refusal × List ℕ} (result, mem.new) (set_up_rule s mem.old) }
 {
-    let check = sizes_check(s, mem.len());
-    match check {
-        Check::Fine => {
-            clear(words_used(s), mem);
-            let board = fresh_board(s);
-            SetUp {
-                start: Start::Ready,
-                board: board,
-            }
-        }
-        Check::Refused(refusal) => {
-            let board = blank_board();
-            SetUp {
-                start: Start::Refused(refusal),
-                board: board,
-            }
-        }
-    }
+    sizes_check(s, mem.len())?;
+    clear(words_used(s), mem);
+    Ok(fresh_board(s))
 }

@@ -3,95 +3,74 @@
 #![tactic(auto)]
 
 ghost use Rattle.std.specs.Prelude.{◌≡◌, List, ℕ, ◌<◌};
-ghost use Rattle.rules.specs.Entry.{refusing, laid_back, begin_rule, step_rule, open_count_rule};
+ghost use Rattle.rules.specs.Entry.{laid_back, begin_rule, step_rule, open_count_rule};
 ghost use Rattle.rules.specs.declared.Answered.{Answered};
+ghost use Rattle.rules.specs.declared.Board.{Board};
 
 use calls::{begin_process, sequences_open};
 use checks::process_check;
-use rules::{Answer, Answered, Board, Call, Check, Moved, OpenCount, Values};
+use rules::{Answered, Board, Call, Process, Values};
 use steps::process_step;
 use word::Refusal;
 
 mod checks; // checks.rt: refusals 1 to 4, of a board
 mod fresh; // fresh.rt: set-up, and the blank board
-mod numbers; // numbers.rt: the number of what an entry point answers
 
 pub use fresh::{blank_board, set_up};
-pub use numbers::{answer_number, open_number, start_number};
-
-fn refusing(board: Board, refusal: Refusal) -> Answered
-    ensures { result ≡ refusing board refusal }
-{
-    Answered {
-        board: board,
-        answer: Answer::Refused(refusal),
-        values: [0, 0, 0, 0],
-    }
-}
 
 // A process moved, laid back into its board.
-fn put_back(board: Board, me: usize, moved: Moved) -> Answered
+fn put_back(board: Board, me: usize, moved: Answered<Process>) -> Answered<Board>
     requires { me < 16 }
     ensures { result ≡ laid_back board me moved }
 {
-    let process = moved.process;
-    let answer = moved.answer;
-    let values = moved.values;
     let mut after = board;
-    after.processes[me] = process;
+    after.processes[me] = moved.after;
     Answered {
-        board: after,
-        answer: answer,
-        values: values,
+        after: after,
+        answer: moved.answer,
     }
 }
 
 // Process me begins a call. The words are read for the checks.
-#[tactic(auto, using(rules::proofs::Refusals::Served::served))]
-pub fn begin(board: Board, me: usize, call: Call, values: Values, mem: &[u64]) -> Answered
+#[tactic(auto, using(rules::proofs::Refusals::Served::served, calls::proofs::Served::begin_served, rules::proofs::Refusals::Refusing::begin_refused_first))]
+pub fn begin(board: Board, me: usize, call: Call, values: Values, mem: &[u64]) -> Answered<Board>
     ensures { result ≡ begin_rule board me call values mem.now }
 {
-    let s = board.settings;
-    let check = process_check(board, me, mem);
-    match check {
-        Check::Fine => {
-            let p = board.processes[me];
-            let moved = begin_process(s, p, call, values);
+    match process_check(board, me, mem) {
+        Ok(()) => {
+            let moved = begin_process(board.settings, board.processes[me], call, values);
             put_back(board, me, moved)
         }
-        Check::Refused(refusal) => refusing(board, refusal),
+        Err(refusal) => Answered {
+            after: board,
+            answer: Err(refusal),
+        },
     }
 }
 
 // Process me takes a step: one access to a shared word.
-#[tactic(auto, using(rules::proofs::Refusals::Served::served))]
-pub fn step(board: Board, me: usize, mem: &mut [u64]) -> Answered
-    ensures { ◌≡◌ {A = Answered × List ℕ} (result, mem.new) (step_rule board me mem.old) }
+#[tactic(auto, using(rules::proofs::Refusals::Served::served, rules::proofs::Refusals::OneProcess::step_served, rules::proofs::Refusals::Refusing::step_refused_first))]
+pub fn step(board: Board, me: usize, mem: &mut [u64]) -> Answered<Board>
+    ensures { ◌≡◌ {A = Answered Board × List ℕ} (result, mem.new) (step_rule board me mem.old) }
 {
-    let s = board.settings;
-    let check = process_check(board, me, &mem[..]);
-    match check {
-        Check::Fine => {
-            let p = board.processes[me];
-            let moved = process_step(s, p, me, mem);
+    match process_check(board, me, &mem[..]) {
+        Ok(()) => {
+            let moved = process_step(board.settings, board.processes[me], me, mem);
             put_back(board, me, moved)
         }
-        Check::Refused(refusal) => refusing(board, refusal),
+        Err(refusal) => Answered {
+            after: board,
+            answer: Err(refusal),
+        },
     }
 }
 
 // The number of variables on which process me has a sequence open.
-#[tactic(auto, using(rules::proofs::Refusals::Served::served))]
-pub fn open_count(board: Board, me: usize, mem: &[u64]) -> OpenCount
+#[tactic(auto, using(rules::proofs::Refusals::Served::served), unfolding(rules::specs::Entry::open_count_rule))]
+pub fn open_count(board: Board, me: usize, mem: &[u64]) -> Result<u32, Refusal>
     ensures { result ≡ open_count_rule board me mem.now }
 {
-    let s = board.settings;
-    let check = process_check(board, me, mem);
-    match check {
-        Check::Fine => {
-            let p = board.processes[me];
-            OpenCount::Open(sequences_open(s, p.opened))
-        }
-        Check::Refused(refusal) => OpenCount::Refused(refusal),
-    }
+    process_check(board, me, mem)?;
+    let p = board.processes[me];
+    Ok(sequences_open(board.settings, p.opened))
 }

@@ -2,23 +2,22 @@
 use mathlib.Core.Path.{◌≡◌, refl, sym, ap}
 use mathlib.Core.List.{List}
 use Prim.Native.Nat.{ℕ}
-use Rattle.rules.specs.Entry.{begin_by, begin_rule, laid_back, refusing}
-use Rattle.rules.specs.Processes.{process_at}
-use Rattle.rules.specs.Refusals.{process_check, call_check, begin_check}
+use Rattle.std.specs.Prelude.{Ok, Err}
+use Rattle.rules.specs.Entry.{begin_by, begin_rule, laid_back}
+use Rattle.rules.specs.Processes.{process_at, refusing}
+use Rattle.rules.specs.Refusals.{Check, process_check, call_check, begin_check}
 use Rattle.rules.specs.declared.Board.{Board}
 use Rattle.rules.specs.declared.Call.{Call}
-use Rattle.rules.specs.declared.Check.{Check}
-use Rattle.rules.specs.declared.Check.TheVariants.{Fine, Refused}
 use Rattle.rules.proofs.Refusals.OneProcess.{same_board}
 use Rattle.calls.specs.OneProcess.{begin_process_by, begin_process_rule}
 
 module _ (board : Board) (me : ℕ) (call : Call) (values words : List ℕ) where
-  pub begin_served : process_check board me words ≡ Fine
+  pub begin_served : process_check board me words ≡ Ok tt
       → begin_rule board me call values words ≡ laid_back board me (begin_process_rule board.settings (process_at board me) call values)
   unfolding begin_rule begin_check begin_process_rule
   begin_served e = rw e (by (call_check board.settings (process_at board me) call values))
     where
       by : (check : Check) → begin_by check board me call values
           ≡ laid_back board me (begin_process_by check board.settings (process_at board me) call values)
-      by Fine = refl
-      by (Refused refusal) = ap (λ (b : Board). refusing b refusal) (sym (same_board board me))
+      by (Ok done) = refl
+      by (Err refusal) = ap (λ (b : Board). refusing b refusal) (sym (same_board board me))

@@ -10,28 +10,25 @@ ghost use Rattle.rules.specs.GoodForm.{open_fits};
 ghost use Rattle.rules.specs.Processes.{open_count};
 
 use refusals::call_check;
-use rules::{Answer, Call, Check, Moved, Process, Settings, Values};
+use rules::{Answer, Answered, Call, Process, Settings, Values};
 use steps::beginning;
 
 mod refusals; // refusals.rt: 5 to 8, of a process and a call
 
 // 5 to 8, and the call's beginning. A refused process is left as found.
-pub fn begin_process(s: Settings, p: Process, call: Call, values: Values) -> Moved
+#[tactic(auto, unfolding(crate::specs::OneProcess::begin_process_rule))]
+pub fn begin_process(s: Settings, p: Process, call: Call, values: Values) -> Answered<Process>
     requires { Sized s }
     ensures { result ≡ begin_process_rule s p call values }
 {
-    let check = call_check(s, p, call, values);
-    let begun = beginning(s, call, values, p);
-    match check {
-        Check::Fine => Moved {
-            process: begun,
-            answer: Answer::Begun,
-            values: [0, 0, 0, 0],
+    match call_check(s, p, call, values) {
+        Ok(()) => Answered {
+            after: beginning(s, call, values, p),
+            answer: Ok(Answer::Begun),
         },
-        Check::Refused(refusal) => Moved {
-            process: p,
-            answer: Answer::Refused(refusal),
-            values: [0, 0, 0, 0],
+        Err(refusal) => Answered {
+            after: p,
+            answer: Err(refusal),
         },
     }
 }

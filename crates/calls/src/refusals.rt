@@ -7,7 +7,7 @@ ghost use Rattle.rules.specs.Refusals.{variable_of, lacks_sequence, all_blank, s
 
 use form::value_fits;
 use process::is_open;
-use rules::{Call, Check, Place, Process, Settings, Values};
+use rules::{Call, Place, Process, Settings, Values};
 use word::Refusal;
 
 fn is_idle(place: Place) -> bool
@@ -103,25 +103,25 @@ fn values_right(s: Settings, call: Call, values: Values) -> bool
 
 // The first of 5 to 8 that holds.
 #[tactic(auto, unfolding(rules::specs::Refusals::call_check))]
-pub(crate) fn call_check(s: Settings, p: Process, call: Call, values: Values) -> Check
+pub(crate) fn call_check(s: Settings, p: Process, call: Call, values: Values) -> Result<(), Refusal>
     requires { Sized s }
     ensures { result ≡ call_check s p call values }
 {
     let place = p.place;
     if variable_of(call) >= s.t {
-        return Check::Refused(Refusal::NoSuchVariable);
+        return Err(Refusal::NoSuchVariable);
     }
     let busy = !is_idle(place);
     let lacks = lacks_sequence(call, p.opened);
     let right = values_right(s, call, values);
     if busy {
-        return Check::Refused(Refusal::CallInProgress);
+        return Err(Refusal::CallInProgress);
     }
     if lacks {
-        return Check::Refused(Refusal::NoOpenSequence);
+        return Err(Refusal::NoOpenSequence);
     }
     if !right {
-        return Check::Refused(Refusal::ValueTooGreat);
+        return Err(Refusal::ValueTooGreat);
     }
-    Check::Fine
+    Ok(())
 }

@@ -5,8 +5,8 @@ ghost use Rattle.rules.specs.Figure6.{saving, copy_through, copy_on, copy_cut_sh
 ghost use Rattle.rules.specs.Processes.{closing, ends};
 ghost use Rattle.rules.specs.declared.Answer.TheVariants.{Yes};
 
-use process::{closing, ends, ends_with, gathering, goes_on};
-use rules::{Answer, Copy, Moved, Place, Process, Settings};
+use process::{closing, ends, gathering, goes_on};
+use rules::{Answer, Answered, Copy, Place, Process, Settings};
 
 // 8: a load saves the segment's value; a store gathers nothing.
 pub(crate) fn saving(c: Copy, value: u64, p: Process) -> Process
@@ -20,7 +20,7 @@ pub(crate) fn saving(c: Copy, value: u64, p: Process) -> Process
 }
 
 // 20, 21: a store whose header was swapped answers yes in any case, and its sequence closes.
-fn store_ends(c: Copy, p: Process) -> Moved
+fn store_ends(c: Copy, p: Process) -> Answered<Process>
     requires { c.variable < 16 }
     ensures { result ≡ ends Yes (closing c.variable p) }
 {
@@ -28,19 +28,18 @@ fn store_ends(c: Copy, p: Process) -> Moved
 }
 
 // 9, 12: Copy is through: a load answers the values gathered.
-fn copy_through(c: Copy, p: Process) -> Moved
+fn copy_through(c: Copy, p: Process) -> Answered<Process>
     requires { c.variable < 16 }
     ensures { result ≡ copy_through c p }
 {
     if c.gathers {
-        let gathered = p.gathered;
-        return ends_with(Answer::Value, gathered, p);
+        return ends(Answer::Value(p.gathered), p);
     }
     store_ends(c, p)
 }
 
 // 1: the next segment, or the end.
-pub(crate) fn copy_on(s: Settings, c: Copy, p: Process) -> Moved
+pub(crate) fn copy_on(s: Settings, c: Copy, p: Process) -> Answered<Process>
     requires { Sized s × (c.variable < s.t) × (c.segment < s.w) }
     ensures { result ≡ copy_on s c p }
 {
@@ -57,7 +56,7 @@ pub(crate) fn copy_on(s: Settings, c: Copy, p: Process) -> Moved
 }
 
 // 7: the header differs: a load ends with the process named in the header just read as witness; a store yes in any case.
-pub(crate) fn copy_cut_short(s: Settings, c: Copy, header: u64, p: Process) -> Moved
+pub(crate) fn copy_cut_short(s: Settings, c: Copy, header: u64, p: Process) -> Answered<Process>
     requires { Sized s × (c.variable < s.t) }
     ensures { result ≡ copy_cut_short s c header p }
 {

@@ -13,12 +13,12 @@ ghost use Rattle.rules.specs.declared.Kind.TheVariants.{Many};
 use gathered::{copy_cut_short, copy_on, saving};
 use process::addresses::{announce_at, header_at, segment_at};
 use process::goes_on;
-use rules::{Copy, Moved, Place, Process, Settings};
+use rules::{Answered, Copy, Place, Process, Settings};
 
 mod gathered; // gathered.rt: what Copy does with a segment's value, and how it ends
 
 // 2, 3: read the segment; is its tag the one before the header's?
-pub fn reads_segment(s: Settings, p: Process, c: Copy, mem: &[u64]) -> Moved
+pub fn reads_segment(s: Settings, p: Process, c: Copy, mem: &[u64]) -> Answered<Process>
     requires { Sized s × (used_by Many s ≤ length mem.now) × (c.variable < s.t) × (c.segment < s.w) }
     ensures { result ≡ (reads_segment s p c mem.now).0 }
 {
@@ -34,7 +34,13 @@ pub fn reads_segment(s: Settings, p: Process, c: Copy, mem: &[u64]) -> Moved
 }
 
 // 4: read the announced value of the header's process at this place.
-pub fn reads_announced(s: Settings, p: Process, c: Copy, read: u64, mem: &[u64]) -> Moved
+pub fn reads_announced(
+    s: Settings,
+    p: Process,
+    c: Copy,
+    read: u64,
+    mem: &[u64],
+) -> Answered<Process>
     requires { Sized s × (used_by Many s ≤ length mem.now) × (value_of (bits s) c.header < s.n) × (c.segment < s.w) }
     ensures { result ≡ (reads_announced s p c read mem.now).0 }
 {
@@ -53,7 +59,7 @@ pub fn swaps_segment(
     read: u64,
     announced: u64,
     mem: &mut [u64],
-) -> Moved
+) -> Answered<Process>
     requires { Sized s × (used_by Many s ≤ length mem.old) × (c.variable < s.t) × (c.segment < s.w) × (announced < value_limit (bits s)) }
     ensures { ◌≡◌ {A = Step} (result, mem.new) (swaps_segment s p c read announced mem.old) }
 {
@@ -67,7 +73,7 @@ pub fn swaps_segment(
 }
 
 // 6, mended: one step more.
-pub fn reads_segment_again(s: Settings, p: Process, c: Copy, mem: &[u64]) -> Moved
+pub fn reads_segment_again(s: Settings, p: Process, c: Copy, mem: &[u64]) -> Answered<Process>
     requires { Sized s × (used_by Many s ≤ length mem.now) × (c.variable < s.t) × (c.segment < s.w) }
     ensures { result ≡ (reads_segment_again s p c mem.now).0 }
 {
@@ -78,7 +84,7 @@ pub fn reads_segment_again(s: Settings, p: Process, c: Copy, mem: &[u64]) -> Mov
 }
 
 // 7: read the header; does it differ from the one Copy was given?
-pub fn reads_header(s: Settings, p: Process, c: Copy, value: u64, mem: &[u64]) -> Moved
+pub fn reads_header(s: Settings, p: Process, c: Copy, value: u64, mem: &[u64]) -> Answered<Process>
     requires { Sized s × (used_by Many s ≤ length mem.now) × (c.variable < s.t) × (c.segment < s.w) }
     ensures { result ≡ (reads_header s p c value mem.now).0 }
 {

@@ -10,12 +10,12 @@ ghost use Rattle.rules.specs.declared.Kind.TheVariants.{Many};
 
 use process::addresses::header_at;
 use process::{ends, gathering_anew, goes_on, keeping, kept_of, opening};
-use rules::{Answer, Copy, Moved, Place, Process, Settings};
+use rules::{Answer, Answered, Copy, Place, Process, Settings};
 
 pub mod store; // store.rt: the store's places, up to its Copy
 
 // 10, 11, 12: read the header, keep its tag, then Copy with that header, gathering values; the sequence opens.
-pub fn load_reads_header(s: Settings, p: Process, x: usize, mem: &[u64]) -> Moved
+pub fn load_reads_header(s: Settings, p: Process, x: usize, mem: &[u64]) -> Answered<Process>
     requires { Sized s × (used_by Many s ≤ length mem.now) × (x < s.t) }
     ensures { result ≡ (load_reads_header s p x mem.now).0 }
 {
@@ -34,7 +34,7 @@ pub fn load_reads_header(s: Settings, p: Process, x: usize, mem: &[u64]) -> Move
 }
 
 // 13: read the header; yes exactly if its tag is the kept one.
-pub fn validate_reads_header(s: Settings, p: Process, x: usize, mem: &[u64]) -> Moved
+pub fn validate_reads_header(s: Settings, p: Process, x: usize, mem: &[u64]) -> Answered<Process>
     requires { Sized s × (used_by Many s ≤ length mem.now) × (x < s.t) }
     ensures { result ≡ (validate_reads_header s p x mem.now).0 }
 {

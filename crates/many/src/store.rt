@@ -8,10 +8,10 @@ ghost use Rattle.rules.specs.declared.Kind.TheVariants.{Many};
 
 use process::addresses::{announce_at, header_at};
 use process::{closing, ends, goes_on, kept_of};
-use rules::{Answer, Copy, Moved, Place, Process, Settings};
+use rules::{Answer, Answered, Copy, Place, Process, Settings};
 
 // 14, 15: read the header; if its tag is not the kept one, no, and the sequence closes.
-pub fn store_reads_header(s: Settings, p: Process, x: usize, mem: &[u64]) -> Moved
+pub fn store_reads_header(s: Settings, p: Process, x: usize, mem: &[u64]) -> Answered<Process>
     requires { Sized s × (used_by Many s ≤ length mem.now) × (x < s.t) }
     ensures { result ≡ (store_reads_header s p x mem.now).0 }
 {
@@ -34,7 +34,7 @@ pub fn store_announces(
     header: u64,
     i: usize,
     mem: &mut [u64],
-) -> Moved
+) -> Answered<Process>
     requires { Sized s × (used_by Many s ≤ length mem.old) × (me < s.n) × (i < s.w) }
     ensures { ◌≡◌ {A = Step} (result, mem.new) (store_announces s p me x header i mem.old) }
 {
@@ -64,7 +64,7 @@ pub fn store_swaps_header(
     x: usize,
     header: u64,
     mem: &mut [u64],
-) -> Moved
+) -> Answered<Process>
     requires { Sized s × (used_by Many s ≤ length mem.old) × (me < s.n) × (x < s.t) }
     ensures { ◌≡◌ {A = Step} (result, mem.new) (store_swaps_header s p me x header mem.old) }
 {

@@ -7,11 +7,11 @@ ghost use Rattle.rules.specs.Bounds.{Sized};
 ghost use Rattle.rules.specs.Figure4.{Step, load_reads_word, validate_reads_word, new_word, store_swaps_word};
 ghost use Rattle.rules.specs.Sizes.{bits};
 
-use process::{closing, ends, ends_with, keeping, kept_of, opening};
-use rules::{Answer, Moved, Process, Settings};
+use process::{closing, ends, keeping, kept_of, opening};
+use rules::{Answer, Answered, Process, Settings};
 
 // Lines 1 and 2: read the word, keep it whole, answer the value; the sequence opens.
-pub fn load_reads_word(s: Settings, p: Process, x: usize, mem: &[u64]) -> Moved
+pub fn load_reads_word(s: Settings, p: Process, x: usize, mem: &[u64]) -> Answered<Process>
     requires { Sized s × (x < s.t) × (s.t ≤ length mem.now) }
     ensures { result ≡ (load_reads_word s p x mem.now).0 }
 {
@@ -19,11 +19,11 @@ pub fn load_reads_word(s: Settings, p: Process, x: usize, mem: &[u64]) -> Moved
     let value = s.layout.value_of(word);
     let kept = keeping(x, word, p);
     let opened = opening(x, kept);
-    ends_with(Answer::Value, [value, 0, 0, 0], opened)
+    ends(Answer::Value([value, 0, 0, 0]), opened)
 }
 
 // Line 3: read the word; yes exactly if it equals the keep-word.
-pub fn validate_reads_word(s: Settings, p: Process, x: usize, mem: &[u64]) -> Moved
+pub fn validate_reads_word(s: Settings, p: Process, x: usize, mem: &[u64]) -> Answered<Process>
     requires { Sized s × (x < s.t) × (s.t ≤ length mem.now) }
     ensures { result ≡ (validate_reads_word s p x mem.now).0 }
 {
@@ -46,7 +46,7 @@ fn new_word(s: Settings, p: Process, x: usize) -> u64
 }
 
 // Line 4: compare-and-swap from the keep-word; the answer is whether it swapped; the sequence closes.
-pub fn store_swaps_word(s: Settings, p: Process, x: usize, mem: &mut [u64]) -> Moved
+pub fn store_swaps_word(s: Settings, p: Process, x: usize, mem: &mut [u64]) -> Answered<Process>
     requires { Sized s × (x < s.t) × (s.t ≤ length mem.old) × (get_or p.values 0 0 < value_limit (bits s)) }
     ensures { ◌≡◌ {A = Step} (result, mem.new) (store_swaps_word s p x mem.old) }
 {

@@ -3,9 +3,9 @@
 #![tactic(auto)]
 
 ghost use Rattle.std.specs.Prelude.{◌≡◌, ◌<◌};
-ghost use Rattle.rules.specs.Processes.{is_open, with_open, with_closed, at, opening, closing, keeping, kept_of, gathering, gathering_anew, goes_on, ends, ends_with};
+ghost use Rattle.rules.specs.Processes.{is_open, with_open, with_closed, at, opening, closing, keeping, kept_of, gathering, gathering_anew, goes_on, ends};
 
-use rules::{Answer, Moved, Place, Process, Values};
+use rules::{Answer, Answered, Place, Process};
 
 pub mod addresses; // addresses.rt: where the shared words of kind `many` lie
 
@@ -104,31 +104,21 @@ pub fn gathering_anew(p: Process) -> Process
 }
 
 // The call goes on at a place.
-pub fn goes_on(place: Place, p: Process) -> Moved
+pub fn goes_on(place: Place, p: Process) -> Answered<Process>
     ensures { result ≡ goes_on place p }
 {
-    let q = at_place(place, p);
-    Moved {
-        process: q,
-        answer: Answer::Busy,
-        values: [0, 0, 0, 0],
+    Answered {
+        after: at_place(place, p),
+        answer: Ok(Answer::Busy),
     }
 }
 
-// The last step of a call gives its answer, with its values, and makes its process idle.
-pub fn ends_with(answer: Answer, values: Values, p: Process) -> Moved
-    ensures { result ≡ ends_with answer values p }
-{
-    let q = at_place(Place::Idle, p);
-    Moved {
-        process: q,
-        answer: answer,
-        values: values,
-    }
-}
-
-pub fn ends(answer: Answer, p: Process) -> Moved
+// The last step of a call gives its answer, and makes its process idle.
+pub fn ends(answer: Answer, p: Process) -> Answered<Process>
     ensures { result ≡ ends answer p }
 {
-    ends_with(answer, [0, 0, 0, 0], p)
+    Answered {
+        after: at_place(Place::Idle, p),
+        answer: Ok(answer),
+    }
 }

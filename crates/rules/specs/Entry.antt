@@ -1,7 +1,6 @@
 -- The entry rules: set-up, begin, step and open count, each over every input. A refusal answers its number and leaves
 -- board and words as found.
 use Rattle.std.specs.Prelude.{List, ◌++◌, ℕ, length, drop, replicate}
-use Rattle.std.specs.Result.{result_and}
 use Rattle.rules.specs.Figure4.{Step}
 use Rattle.rules.specs.Processes.{no_values, open_count, refusing, process_at, put_process}
 use Rattle.rules.specs.Refusals.{Check, sizes_check, process_check, begin_check, step_check}
@@ -56,6 +55,9 @@ step_by (Err refusal) board me words = (refusing board refusal, words)
 unfoldable pub step_rule : Board → ℕ → List ℕ → Answered Board × List ℕ
 step_rule board me words = step_by (step_check board me words) board me words
 
+abbrev pub open_count_by : Check → Board → ℕ → Result ℕ Refusal
+open_count_by (Ok done) board me = Ok (open_count (process_at board me).opened board.settings.t)
+open_count_by (Err refusal) board me = Err refusal
+
 unfoldable pub open_count_rule : Board → ℕ → List ℕ → Result ℕ Refusal
-open_count_rule board me words =
-    result_and (process_check board me words) (Ok (open_count (process_at board me).opened board.settings.t))
+open_count_rule board me words = open_count_by (process_check board me words) board me

@@ -18,7 +18,7 @@ use Rattle.rules.specs.Steps.{step_from, process_step}
 use Rattle.rules.specs.declared.Answer.TheVariants.{No}
 use Rattle.rules.specs.declared.Copy.{Copy}
 use Rattle.rules.specs.declared.Kind.TheVariants.{Many}
-use Rattle.rules.specs.declared.Moved.{Moved}
+use Rattle.rules.specs.declared.Answered.{Answered}
 use Rattle.rules.specs.declared.Place.{Place}
 use Rattle.rules.specs.declared.Place.TheVariants.{LoadReadsWord, ValidateReadsWord, StoreSwapsWord, LoadReadsHeader, ValidateReadsHeader, StoreReadsHeader, StoreAnnounces, StoreSwapsHeader, ReadsSegment, ReadsAnnounced, SwapsSegment, ReadsSegmentAgain, ReadsHeader}
 use Rattle.rules.specs.declared.Process.{Process}
@@ -131,7 +131,7 @@ step_from_lem s p me words e q = q ∙ ap (λ (l : Place). step_from l s p me wo
 abbrev pub OnlyReads : Place → Type 0
 OnlyReads place = (s : Settings) (p : Process) (me : ℕ) (words : List ℕ) → (step_from place s p me words).1 ≡ words
 
-either : (test : Bool) (one two : Moved) (words : List ℕ) → (cond {A = Step} test (one, words) (two, words)).1 ≡ words
+either : (test : Bool) (one two : Answered Process) (words : List ℕ) → (cond {A = Step} test (one, words) (two, words)).1 ≡ words
 either true one two words = refl
 either false one two words = refl
 
@@ -156,7 +156,7 @@ header_only_read c value s p me words =
 
 -- .. so that it is settled by the process after it
 pub read_from :
-    (s : Settings) (p : Process) (me : ℕ) (words : List ℕ) {place : Place} {moved : Moved}
+    (s : Settings) (p : Process) (me : ℕ) (words : List ℕ) {place : Place} {moved : Answered Process}
     → p.place ≡ place
     → OnlyReads place
     → moved ≡ (step_from place s p me words).0

@@ -14,7 +14,7 @@ use many::store::{store_announces, store_reads_header, store_swaps_header};
 use many::{load_reads_header, validate_reads_header};
 use one::{load_reads_word, store_swaps_word, validate_reads_word};
 use process::ends;
-use rules::{Answer, Call, Kind, Moved, Place, Process, Settings, Values};
+use rules::{Answer, Answered, Call, Kind, Place, Process, Settings, Values};
 use word::Refusal;
 
 fn first_place_of_one(call: Call) -> Place
@@ -64,13 +64,16 @@ pub fn beginning(s: Settings, call: Call, values: Values, p: Process) -> Process
 }
 
 // One step: me is the process's own number. An idle process takes none.
-pub fn process_step(s: Settings, p: Process, me: usize, mem: &mut [u64]) -> Moved
+pub fn process_step(s: Settings, p: Process, me: usize, mem: &mut [u64]) -> Answered<Process>
     requires { Sized s × (words_used s ≤ length mem.old) × (me < s.n) × (process_fits s p ≡ true) }
     ensures { ◌≡◌ {A = Step} (result, mem.new) (process_step s p me mem.old) }
 {
     let place = p.place;
     match place {
-        Place::Idle => ends(Answer::Refused(Refusal::ProcessIdle), p),
+        Place::Idle => Answered {
+            after: p,
+            answer: Err(Refusal::ProcessIdle),
+        },
         Place::LoadReadsWord(x) => load_reads_word(s, p, x, &mem[..]),
         Place::ValidateReadsWord(x) => validate_reads_word(s, p, x, &mem[..]),
         Place::StoreSwapsWord(x) => store_swaps_word(s, p, x, mem),

@@ -5,11 +5,10 @@ use mathlib.Core.Bool.{true}
 use mathlib.Core.List.{List}
 use Prim.Native.Nat.{ℕ}
 use lib.ListN.{length}
-use Rattle.std.specs.Result.{result_and}
-use Rattle.rules.specs.Entry.{blank_board, set_up_rule, set_up_by, begin_rule, begin_by, step_rule, step_by, open_count_rule}
+use Rattle.rules.specs.Entry.{blank_board, set_up_rule, set_up_by, begin_rule, begin_by, step_rule, step_by, open_count_rule, open_count_by}
 use Rattle.rules.specs.Processes.{refusing}
 use Rattle.rules.specs.OwnSteps.{taken}
-use Rattle.rules.specs.Processes.{open_count, process_at}
+use Rattle.rules.specs.Processes.{process_at}
 use Rattle.rules.specs.Refusals.{sizes_check, process_check, begin_check, step_check}
 use Rattle.rules.specs.Sizes.{settings_fit}
 use Rattle.rules.specs.Steps.{process_step}
@@ -35,14 +34,10 @@ pub step_refused : (board : Board) (me : ℕ) (words : List ℕ) (r : Refusal)
 unfolding step_rule
 step_refused board me words r e = ap (λ (c : Check). step_by c board me words) e
 
--- the open count where no check finds a refusal
-abbrev open_of : Board → ℕ → Result ℕ Refusal
-open_of board me = Ok (open_count (process_at board me).opened board.settings.t)
-
 pub count_refused : (board : Board) (me : ℕ) (words : List ℕ) (r : Refusal)
     → process_check board me words ≡ Err r → open_count_rule board me words ≡ Err r
 unfolding open_count_rule
-count_refused board me words r e = ap (λ (c : Check). result_and c (open_of board me)) e
+count_refused board me words r e = ap (λ (c : Check). open_count_by c board me) e
 
 -- where 1 to 4 find a refusal, it is the answer of a begin and of a step
 module _ (board : Board) (me : ℕ) (words : List ℕ) (r : Refusal) (e : process_check board me words ≡ Err r) where
@@ -93,7 +88,7 @@ pub count_refuses : (board : Board) (me : ℕ) (words : List ℕ) (r : Refusal)
 unfolding open_count_rule
 count_refuses board me words r = go (process_check board me words)
   where
-    go : (c : Check) → result_and c (open_of board me) ≡ Err r → c ≡ Err r
+    go : (c : Check) → open_count_by c board me ≡ Err r → c ≡ Err r
     go (Ok done) e = cc
     go (Err q) e = cc
 

@@ -7,7 +7,7 @@ use borrow.Author.Rules.{rules}
 use Rattle.rules.specs.Bounds.{Sized}
 use Rattle.rules.specs.GoodForm.{process_fits}
 use Rattle.rules.specs.Sizes.{words_used}
-use Rattle.rules.specs.declared.Moved.{Moved}
+use Rattle.rules.specs.declared.Answered.{Answered}
 use Rattle.rules.specs.declared.Process.{Process}
 use Rattle.rules.specs.declared.Settings.{Settings}
 use Rattle.steps.proofs.Places as places
@@ -63,8 +63,7 @@ reads_header-requires c = places.reads_header_lem (ready c.requires) _ _ c.in-Re
 
 pub returns-in-Idle : goal.returns-in-Idle
 returns-in-Idle c =
-    places.step_from_lem c.args.s c.args.p c.args.me c.args.mem.now c.in-Idle.is
-    (ap (λ (r : Moved). (r, c.args.mem.now)) c.ends.ensures)
+    places.step_from_lem c.args.s c.args.p c.args.me c.args.mem.now c.in-Idle.is refl
 
 pub returns-in-LoadReadsWord : goal.returns-in-LoadReadsWord
 returns-in-LoadReadsWord c =
