@@ -8,6 +8,7 @@ use lib.Dec.{leb}
 use lib.ListN.{length, get_or, take, length-append}
 use lib.Seq.{take_all}
 use borrow.Author.Tests.{leb-true, leb-false}
+use Rattle.std.specs.Prelude.{slice_get}
 use Rattle.fields.specs.Decimal.{decimal}
 use Rattle.rules.specs.Text.{ascii}
 use Rattle.writing.specs.Line.{after_comma, rest}
@@ -16,15 +17,10 @@ use Rattle.rules.specs.Answers.{answer_word, numbers_of}
 use Rattle.printout.specs.declared.Row.{Row}
 
 -- a value field holds its number where there is one, and is blank where not
-pub filled : (k : ℕ) (numbers : List ℕ) → k < length numbers → value_field k numbers ≡ decimal (get_or numbers k 0)
-filled k [] h = absurd (let y : ⊥ = omega arith in y)
-filled zero (v ∷ numbers) h = refl
-filled (suc k) (v ∷ numbers) h = filled k numbers (omega arith)
-
-pub blank : (k : ℕ) (numbers : List ℕ) → length numbers ≤ k → value_field k numbers ≡ []
-blank k [] h = refl
-blank zero (v ∷ numbers) h = absurd (let y : ⊥ = omega arith in y)
-blank (suc k) (v ∷ numbers) h = blank k numbers (omega arith)
+pub shown : (k : ℕ) (numbers : List ℕ) → open_field (slice_get numbers k) ≡ value_field k numbers
+shown k [] = refl
+shown zero (v ∷ numbers) = refl
+shown (suc k) (v ∷ numbers) = shown k numbers
 
 -- a field with its comma, then the others
 length_after : (field : List ℕ) (fields : List (List ℕ)) → length (rest (field ∷ fields)) ≡ 1 + length field + length (rest fields)
@@ -38,22 +34,12 @@ length_values numbers = four (value_field 0 numbers) (value_field 1 numbers) (va
     four : (a b c d : List ℕ) → length (rest (a ∷ b ∷ c ∷ d ∷ [])) ≡ length a + length b + length c + length d + 6
     four a b c d = omega (arith, length_after a (b ∷ c ∷ d ∷ []), length_after b (c ∷ d ∷ []), length_after c (d ∷ []), length_after d [])
 
--- four values are all there are
-pub take_four : (w : ℕ) (values : List ℕ) → length values ≡ 4 → take (min w 4) values ≡ take w values
-take_four w values h = either (leb w 4) refl
-  where
-    either : (b : Bool) → leb w 4 ≡ b → take (min w 4) values ≡ take w values
-    either true e = let m : min w 4 ≡ w = omega (arith, leb-true w 4 e) in rw m refl
-    either false e =
-        let m : min w 4 ≡ 4 = omega (arith, leb-false w 4 e) in
-        rw m (take_all 4 values (omega arith) ∙ sym (take_all w values (omega (arith, leb-false w 4 e))))
-
 -- the parts of a row that are put one after the other
 abbrev pub who_part : Row → List ℕ
 who_part row = after_comma (process_field row.who) ++ after_comma (act_field row.who)
 
 abbrev pub numbers_part : Row → List ℕ
-numbers_part row = rest (value_fields (numbers_of row.answer row.w row.values))
+numbers_part row = rest (value_fields (numbers_of row.w row.answer))
 
 pub row_parts : (row : Row)
     → decimal row.number ++ (who_part row ++ (after_comma (answer_word row.answer) ++ (after_comma (open_field row.open) ++ numbers_part row))) ≡ row_of row

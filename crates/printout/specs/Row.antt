@@ -1,5 +1,5 @@
 -- Document 01, "Schedule and printout": the heading, and a row of the printout with its nine fields.
-use Rattle.std.specs.Prelude.{List, [], ◌∷◌, ℕ, zero, suc}
+use Rattle.std.specs.Prelude.{List, [], ◌∷◌, ℕ, zero, suc, Option, Some, None}
 use Rattle.rules.specs.Answers.{answer_word, numbers_of}
 use Rattle.rules.specs.Text.{ascii}
 use Rattle.fields.specs.Decimal.{decimal}
@@ -8,8 +8,6 @@ use Rattle.writing.specs.Line.{line}
 use Rattle.printout.specs.declared.Row.{Row}
 use Rattle.printout.specs.declared.Who.{Who}
 use Rattle.printout.specs.declared.Who.TheVariants.{Nobody, SetUp, Process}
-use Rattle.printout.specs.declared.Open.{Open}
-use Rattle.printout.specs.declared.Open.TheVariants.{Blank, Count}
 
 abbrev pub heading : List ℕ
 heading = ascii "no,process,act,answer,open,v0,v1,v2,v3\r\n"
@@ -24,9 +22,9 @@ act_field Nobody = []
 act_field SetUp = ascii "setup"
 act_field (Process process act) = act_word act
 
-abbrev pub open_field : Open → List ℕ
-open_field Blank = []
-open_field (Count count) = decimal count
+abbrev pub open_field : Option ℕ → List ℕ
+open_field None = []
+open_field (Some count) = decimal count
 
 -- field k of the values: number k, and blank where there are no more
 abbrev pub value_field : ℕ → List ℕ → List ℕ
@@ -45,4 +43,4 @@ row_of row =
     ∷ act_field row.who
     ∷ answer_word row.answer
     ∷ open_field row.open
-    ∷ value_fields (numbers_of row.answer row.w row.values))
+    ∷ value_fields (numbers_of row.w row.answer))

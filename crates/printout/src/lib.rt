@@ -10,6 +10,7 @@ ghost use Rattle.printout.specs.Writing.{Written, put_row, put_heading};
 use record::Act;
 use row_fields::put_fields;
 use rules::Answer;
+use word::Refusal;
 use writing::put;
 
 // Whose record a row tells of: nobody's after 10, 11 and 12, the set-up, or a process with its act.
@@ -20,21 +21,14 @@ pub enum Who {
     Process(u64, Act),
 }
 
-#[derive(Clone, Copy)]
-pub enum Open {
-    Blank,
-    Count(u64),
-}
-
-// Of `values` the first `w` are printed where the answer is `Value`.
+// Where there is no open count its field is blank. Of the values of a load the first `w` are printed.
 #[derive(Clone, Copy)]
 pub struct Row {
     pub number: u64,
     pub who: Who,
-    pub answer: Answer,
-    pub open: Open,
+    pub answer: Result<Answer, Refusal>,
+    pub open: Option<u64>,
     pub w: usize,
-    pub values: [u64; 4],
 }
 
 // No row is longer.
@@ -46,7 +40,7 @@ const HEADING_LENGTH: usize = 40;
 fn room(lent: usize, at: usize) -> usize
     ensures { result ≡ lent - at }
 {
-    if at < lent { lent - at } else { 0 }
+    lent.saturating_sub(at)
 }
 
 // Where there is no room for the longest row, nothing is written and `at` comes back.

@@ -4,12 +4,13 @@ ghost use Rattle.record.specs.Words.{act_word};
 ghost use Rattle.rules.specs.Answers.{answer_word};
 ghost use Rattle.writing.specs.Line.{after_comma};
 ghost use Rattle.writing.specs.Put.{Put};
-ghost use Rattle.printout.specs.Row.{process_field, act_field, open_field, row_of};
+ghost use Rattle.printout.specs.Row.{process_field, act_field, row_of};
 
-use super::value_fields::put_numbers;
-use super::{Open, Row, Who};
+use super::value_fields::{put_numbers, put_optional};
+use super::{Row, Who};
 use record::Act;
 use rules::Answer;
+use word::Refusal;
 use writing::{put, put_decimal, put_number};
 
 fn put_act(act: Act, out: &mut [u8], at: usize) -> usize
@@ -39,28 +40,18 @@ fn put_who(who: Who, out: &mut [u8], at: usize) -> usize
     }
 }
 
-fn put_answer(answer: Answer, out: &mut [u8], at: usize) -> usize
+fn put_answer(answer: Result<Answer, Refusal>, out: &mut [u8], at: usize) -> usize
     requires { at + length (after_comma (answer_word answer)) ≤ length out.old }
     ensures { Put out.old at (after_comma (answer_word answer)) out.new result }
 {
     match answer {
-        Answer::Begun => put(b",begun", out, at),
-        Answer::Busy => put(b",busy", out, at),
-        Answer::Value => put(b",value", out, at),
-        Answer::Witness(_) => put(b",witness", out, at),
-        Answer::Yes => put(b",yes", out, at),
-        Answer::No => put(b",no", out, at),
-        Answer::Refused(_) => put(b",refused", out, at),
-    }
-}
-
-fn put_open(open: Open, out: &mut [u8], at: usize) -> usize
-    requires { at + length (after_comma (open_field «open»)) ≤ length out.old }
-    ensures { Put out.old at (after_comma (open_field «open»)) out.new result }
-{
-    match open {
-        Open::Blank => put(b",", out, at),
-        Open::Count(count) => put_number(count, out, at),
+        Ok(Answer::Begun) => put(b",begun", out, at),
+        Ok(Answer::Busy) => put(b",busy", out, at),
+        Ok(Answer::Value(_)) => put(b",value", out, at),
+        Ok(Answer::Witness(_)) => put(b",witness", out, at),
+        Ok(Answer::Yes) => put(b",yes", out, at),
+        Ok(Answer::No) => put(b",no", out, at),
+        Err(_) => put(b",refused", out, at),
     }
 }
 
@@ -69,13 +60,9 @@ pub(crate) fn put_fields(row: Row, out: &mut [u8], at: usize) -> usize
     requires { at + length (row_of row) ≤ length out.old }
     ensures { Put out.old at (row_of row) out.new result }
 {
-    let who = row.who;
-    let answer = row.answer;
-    let open = row.open;
-    let values = row.values;
     let at_process = put_decimal(row.number, out, at);
-    let at_answer = put_who(who, out, at_process);
-    let at_open = put_answer(answer, out, at_answer);
-    let at_v0 = put_open(open, out, at_open);
-    put_numbers(answer, row.w, values, out, at_v0)
+    let at_answer = put_who(row.who, out, at_process);
+    let at_open = put_answer(row.answer, out, at_answer);
+    let at_v0 = put_optional(row.open, out, at_open);
+    put_numbers(row.answer, row.w, out, at_v0)
 }

@@ -1,66 +1,39 @@
 // The value fields of a row: which numbers of the answer stand in them, and their bytes with the line's end.
-ghost use Rattle.std.specs.Prelude.{◌≡◌, ◌+◌, ◌≤◌, length, take};
+ghost use Rattle.std.specs.Prelude.{◌≡◌, ◌+◌, ◌≤◌, length, slice_get};
 ghost use Rattle.rules.specs.Answers.{numbers_of};
 ghost use Rattle.writing.specs.Line.{after_comma, rest};
 ghost use Rattle.writing.specs.Put.{Put};
-ghost use Rattle.printout.specs.Row.{value_field, value_fields};
+ghost use Rattle.printout.specs.Row.{open_field, value_field, value_fields};
 
 use record::at_most_four;
 use rules::Answer;
+use word::Refusal;
 use writing::{put, put_number};
 
-// Numbers for the value fields: the first `count` of the list.
-#[derive(Clone, Copy)]
-struct Numbers {
-    list: [u64; 4],
-    count: usize,
-}
-
-fn numbers_of(answer: Answer, w: usize, values: [u64; 4]) -> Numbers
-    ensures { (result.count ≤ 4) × (length result.list ≡ 4) × (take result.count result.list ≡ numbers_of answer w values) }
+// A number in its field, or a blank one.
+pub(crate) fn put_optional(number: Option<u64>, out: &mut [u8], at: usize) -> usize
+    requires { at + length (after_comma (open_field number)) ≤ length out.old }
+    ensures { Put out.old at (after_comma (open_field number)) out.new result }
 {
-    match answer {
-        Answer::Value => Numbers {
-            list: values,
-            count: at_most_four(w),
-        },
-        Answer::Witness(process) => Numbers {
-            list: [process, 0, 0, 0],
-            count: 1,
-        },
-        Answer::Refused(refusal) => Numbers {
-            list: [refusal.number(), 0, 0, 0],
-            count: 1,
-        },
-        Answer::Begun => Numbers {
-            list: [0; 4],
-            count: 0,
-        },
-        Answer::Busy => Numbers {
-            list: [0; 4],
-            count: 0,
-        },
-        Answer::Yes => Numbers {
-            list: [0; 4],
-            count: 0,
-        },
-        Answer::No => Numbers {
-            list: [0; 4],
-            count: 0,
-        },
+    match number {
+        None => put(b",", out, at),
+        Some(count) => put_number(count, out, at),
     }
 }
 
+fn nth(numbers: &[u64], k: usize) -> Option<u64>
+    ensures { result ≡ slice_get numbers.now k }
+{
+    numbers.get(k).copied()
+}
+
 // Value field k.
+#[tactic(auto, using(crate::proofs::Rows::shown))]
 fn put_value(k: usize, numbers: &[u64], out: &mut [u8], at: usize) -> usize
     requires { at + length (after_comma (value_field k numbers.now)) ≤ length out.old }
     ensures { Put out.old at (after_comma (value_field k numbers.now)) out.new result }
 {
-    if k < numbers.len() {
-        put_number(numbers[k], out, at)
-    } else {
-        put(b",", out, at)
-    }
+    put_optional(nth(numbers, k), out, at)
 }
 
 // The four value fields and the line's end.
@@ -77,17 +50,18 @@ fn put_values(numbers: &[u64], out: &mut [u8], at: usize) -> usize
 
 // What follows the open count: the value fields with the answer's numbers, and the line's end.
 pub(crate) fn put_numbers(
-    answer: Answer,
+    answer: Result<Answer, Refusal>,
     w: usize,
-    values: [u64; 4],
     out: &mut [u8],
     at: usize,
 ) -> usize
-    requires { at + length (rest (value_fields (numbers_of answer w values))) ≤ length out.old }
-    ensures { Put out.old at (rest (value_fields (numbers_of answer w values))) out.new result }
+    requires { at + length (rest (value_fields (numbers_of w answer))) ≤ length out.old }
+    ensures { Put out.old at (rest (value_fields (numbers_of w answer))) out.new result }
 {
-    let numbers = numbers_of(answer, w, values);
-    let list = numbers.list;
-    let count = numbers.count;
-    put_values(&list[..count], out, at)
+    match answer {
+        Ok(Answer::Value(values)) => put_values(&values[..at_most_four(w)], out, at),
+        Ok(Answer::Witness(process)) => put_values(&[process], out, at),
+        Err(refusal) => put_values(&[refusal.number()], out, at),
+        Ok(Answer::Begun | Answer::Busy | Answer::Yes | Answer::No) => put_values(&[], out, at),
+    }
 }

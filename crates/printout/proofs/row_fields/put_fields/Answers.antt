@@ -13,8 +13,8 @@ put_who-at_answer-requires c = omega (arith, length_row c.args.row)
 pub put_answer-at_open-requires : goal.put_answer-at_open-requires
 put_answer-at_open-requires c = omega (arith, length_row c.args.row)
 
-pub put_open-at_v0-requires : goal.put_open-at_v0-requires
-put_open-at_v0-requires c = omega (arith, length_row c.args.row)
+pub put_optional-at_v0-requires : goal.put_optional-at_v0-requires
+put_optional-at_v0-requires c = omega (arith, length_row c.args.row)
 
 pub put_numbers-requires : goal.put_numbers-requires
 put_numbers-requires c = omega (arith, length_row c.args.row)
@@ -25,4 +25,4 @@ returns c =
     (then c.put_decimal-at_process.ensures
     (then c.put_who-at_answer.ensures
     (then c.put_answer-at_open.ensures
-    (then c.put_open-at_v0.ensures c.put_numbers.ensures))))
+    (then c.put_optional-at_v0.ensures c.put_numbers.ensures))))
