@@ -7,29 +7,36 @@ mod cases; // cases.rt: the families of damage
 mod places; // places.rt: a process at each place
 mod run; // run.rt: a case handed to every entry point
 
+use cases::Family;
+use rules::Kind;
 use std::io;
 
+// Each family, and how many cases it has; its number is its place here.
+const FAMILIES: [(Family, usize); 11] = [
+    (Family::Places(Kind::One), 112),
+    (Family::Places(Kind::Many), 112),
+    (Family::Held, 168),
+    (Family::Opened, 36),
+    (Family::Kept, 288),
+    (Family::Carried, 96),
+    (Family::Words, 120),
+    (Family::Sizes, 44),
+    (Family::Lent, 20),
+    (Family::Numbers, 24),
+    (Family::Calls, 160),
+];
+
 // The cases of a family, in order.
-fn family(rt: HostRuntime, f: usize, count: usize) -> io::Result<()> {
-    let mut k = 0;
-    while k < count {
-        let case = cases::case_of(f, k);
-        run::run(rt, f, k, case)?;
-        k += 1;
+fn cases_of(rt: HostRuntime, f: usize, family: Family, count: usize) -> io::Result<()> {
+    for k in 0..count {
+        run::run(rt, f, k, family.case(k))?;
     }
     Ok(())
 }
 
 fn main(rt: HostRuntime) -> io::Result<()> {
-    family(rt, 0, 112)?;
-    family(rt, 1, 112)?;
-    family(rt, 2, 168)?;
-    family(rt, 3, 36)?;
-    family(rt, 4, 288)?;
-    family(rt, 5, 96)?;
-    family(rt, 6, 120)?;
-    family(rt, 7, 44)?;
-    family(rt, 8, 20)?;
-    family(rt, 9, 24)?;
-    family(rt, 10, 160)
+    for (f, &(family, count)) in FAMILIES.iter().enumerate() {
+        cases_of(rt, f, family, count)?;
+    }
+    Ok(())
 }

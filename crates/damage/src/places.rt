@@ -1,42 +1,40 @@
-// A process at each place, by number.
+// A process at each place.
 use rules::{Copy, Place, Process};
 
-// Place 0, and any past the last, is idle.
-pub(crate) fn place_of(code: usize, x: usize, header: u64, i: usize, value: u64) -> Place {
+// Each place, in their order, at a variable and with what the place holds; from the eighth on those that hold more than the
+// variable.
+pub(crate) fn places(x: usize, header: u64, i: usize, value: u64) -> [Place; 14] {
     let c = Copy {
         variable: x,
-        header: header,
+        header,
         segment: i,
         gathers: true,
     };
-    match code {
-        1 => Place::LoadReadsWord(x),
-        2 => Place::ValidateReadsWord(x),
-        3 => Place::StoreSwapsWord(x),
-        4 => Place::LoadReadsHeader(x),
-        5 => Place::ValidateReadsHeader(x),
-        6 => Place::StoreReadsHeader(x),
-        7 => Place::StoreAnnounces(x, header, i),
-        8 => Place::StoreSwapsHeader(x, header),
-        9 => Place::ReadsSegment(c),
-        10 => Place::ReadsAnnounced(c, 0),
-        11 => Place::SwapsSegment(c, 0, value),
-        12 => Place::ReadsSegmentAgain(c),
-        13 => Place::ReadsHeader(c, value),
-        _ => Place::Idle,
-    }
+    [
+        Place::Idle,
+        Place::LoadReadsWord(x),
+        Place::ValidateReadsWord(x),
+        Place::StoreSwapsWord(x),
+        Place::LoadReadsHeader(x),
+        Place::ValidateReadsHeader(x),
+        Place::StoreReadsHeader(x),
+        Place::StoreAnnounces(x, header, i),
+        Place::StoreSwapsHeader(x, header),
+        Place::ReadsSegment(c),
+        Place::ReadsAnnounced(c, 0),
+        Place::SwapsSegment(c, 0, value),
+        Place::ReadsSegmentAgain(c),
+        Place::ReadsHeader(c, value),
+    ]
 }
 
 // A process there, with these sequences open and every number 0.
 pub(crate) fn process_at(place: Place, opened: u16) -> Process {
-    let keep = [0u64; 16];
-    let values = [0u64; 4];
-    let gathered = [0u64; 4];
     Process {
-        place: place,
-        opened: opened,
-        keep: keep,
-        values: values,
-        gathered: gathered,
+        place,
+        opened,
+        keep: [0; 16],
+        values: [0; 4],
+        gathered: [0; 4],
     }
 }

@@ -1,9 +1,0 @@
--- The invariant of `family`: k is at most the count.
-use Prim.Native.Nat.{◌≤◌, ◌-◌}
-use Rattle.damage.proofs.family.Given as goal
-
-abbrev pub invariant-loop-k : goal.invariant-loop-k
-invariant-loop-k l = l.k ≤ l.count
-
-abbrev pub decreases-loop-k : goal.decreases-loop-k
-decreases-loop-k l = l.count - l.k
