@@ -38,5 +38,5 @@ pub fn sequences_open(s: Settings, opened: u16) -> u32
     requires { open_fits s opened ≡ true }
     ensures { result ≡ open_count opened s.t }
 {
-    u16::count_ones(opened)
+    opened.count_ones()
 }

@@ -45,10 +45,8 @@ pub(crate) fn copy_on(s: Settings, c: Copy, p: Process) -> Answered<Process>
 {
     if c.segment + 1 < s.w {
         let next = Copy {
-            variable: c.variable,
-            header: c.header,
             segment: c.segment + 1,
-            gathers: c.gathers,
+            ..c
         };
         return goes_on(Place::ReadsSegment(next), p);
     }

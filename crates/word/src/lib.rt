@@ -77,6 +77,7 @@ impl Layout {
         power_of_two(Layout::WORD_BITS - self.bits)
     }
 
+    #[tactic(auto, unfolding(crate::specs::Word::word))]
     pub fn word_of(self, tag: u64, value: u64) -> u64
         requires { (4 ≤ self.bits) × (self.bits ≤ 48) × (tag < tag_limit self.bits) × (value < value_limit self.bits) }
         ensures { result ≡ word self.bits tag value }
@@ -84,6 +85,7 @@ impl Layout {
         tag * self.value_limit() + value
     }
 
+    #[tactic(auto, unfolding(crate::specs::Word::tag_of))]
     pub fn tag_of(self, w: u64) -> u64
         requires { (4 ≤ self.bits) × (self.bits ≤ 48) }
         ensures { result ≡ tag_of self.bits w }
@@ -91,6 +93,7 @@ impl Layout {
         w / self.value_limit()
     }
 
+    #[tactic(auto, unfolding(crate::specs::Word::value_of))]
     pub fn value_of(self, w: u64) -> u64
         requires { (4 ≤ self.bits) × (self.bits ≤ 48) }
         ensures { result ≡ value_of self.bits w }
@@ -98,18 +101,20 @@ impl Layout {
         w % self.value_limit()
     }
 
+    #[tactic(auto, using(crate::proofs::Laws::next_of))]
     pub fn next_tag(self, tag: u64) -> u64
         requires { (4 ≤ self.bits) × (self.bits ≤ 48) × (tag < tag_limit self.bits) }
         ensures { result ≡ next_tag self.bits tag }
     {
-        std::num::wrapping_add_u64(tag, 1) % self.tag_limit()
+        tag.wrapping_add(1) % self.tag_limit()
     }
 
+    #[tactic(auto, using(crate::proofs::Laws::previous_of))]
     pub fn previous_tag(self, tag: u64) -> u64
         requires { (4 ≤ self.bits) × (self.bits ≤ 48) × (tag < tag_limit self.bits) }
         ensures { result ≡ previous_tag self.bits tag }
     {
-        std::num::wrapping_sub_u64(tag, 1) % self.tag_limit()
+        tag.wrapping_sub(1) % self.tag_limit()
     }
 
     pub fn pack(self, tag: u64, value: u64) -> Result<u64, Refusal>

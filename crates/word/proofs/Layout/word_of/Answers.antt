@@ -14,7 +14,3 @@ overflow_mul-result c =
 
 pub overflow_add-result : goal.overflow_add-result
 overflow_add-result c = fit c.args.self.bits c.requires.1 c.requires.2 c.requires.3 c.value_limit.ensures
-
-pub returns : goal.returns
-unfolding word
-returns c = rw c.value_limit.ensures
