@@ -17,66 +17,62 @@ pub fn is_open(mask: u16, x: usize) -> bool
     (mask >> (x as u16)) % 2 == 1
 }
 
+#[tactic(auto, using(rules::proofs::Sequences::Masks::bit), unfolding(rules::specs::Processes::with_open))]
 fn with_open(mask: u16, x: usize) -> u16
     requires { x < 16 }
     ensures { result ≡ with_open mask x }
 {
     if is_open(mask, x) {
-        return mask;
+        mask
+    } else {
+        mask + (1 << (x as u16))
     }
-    mask + (1 << (x as u16))
 }
 
+#[tactic(auto, using(rules::proofs::Sequences::Masks::bit), unfolding(rules::specs::Processes::with_closed))]
 fn with_closed(mask: u16, x: usize) -> u16
     requires { x < 16 }
     ensures { result ≡ with_closed mask x }
 {
     if is_open(mask, x) {
-        return mask - (1 << (x as u16));
+        mask - (1 << (x as u16))
+    } else {
+        mask
     }
-    mask
 }
 
 fn at_place(place: Place, p: Process) -> Process
     ensures { result ≡ at place p }
 {
-    let keep = p.keep;
-    let values = p.values;
-    let gathered = p.gathered;
-    Process {
-        place: place,
-        opened: p.opened,
-        keep: keep,
-        values: values,
-        gathered: gathered,
-    }
+    Process { place, ..p }
 }
 
 pub fn opening(x: usize, p: Process) -> Process
     requires { x < 16 }
     ensures { result ≡ opening x p }
 {
-    let mut q = p;
-    q.opened = with_open(p.opened, x);
-    q
+    Process {
+        opened: with_open(p.opened, x),
+        ..p
+    }
 }
 
 pub fn closing(x: usize, p: Process) -> Process
     requires { x < 16 }
     ensures { result ≡ closing x p }
 {
-    let mut q = p;
-    q.opened = with_closed(p.opened, x);
-    q
+    Process {
+        opened: with_closed(p.opened, x),
+        ..p
+    }
 }
 
-pub fn keeping(x: usize, kept: u64, p: Process) -> Process
+pub fn keeping(x: usize, kept: u64, mut p: Process) -> Process
     requires { x < 16 }
     ensures { result ≡ keeping x kept p }
 {
-    let mut q = p;
-    q.keep[x] = kept;
-    q
+    p.keep[x] = kept;
+    p
 }
 
 pub fn kept_of(x: usize, p: Process) -> u64
@@ -86,21 +82,21 @@ pub fn kept_of(x: usize, p: Process) -> u64
     p.keep[x]
 }
 
-pub fn gathering(i: usize, value: u64, p: Process) -> Process
+pub fn gathering(i: usize, value: u64, mut p: Process) -> Process
     requires { i < 4 }
     ensures { result ≡ gathering i value p }
 {
-    let mut q = p;
-    q.gathered[i] = value;
-    q
+    p.gathered[i] = value;
+    p
 }
 
 pub fn gathering_anew(p: Process) -> Process
     ensures { result ≡ gathering_anew p }
 {
-    let mut q = p;
-    q.gathered = [0, 0, 0, 0];
-    q
+    Process {
+        gathered: [0; 4],
+        ..p
+    }
 }
 
 // The call goes on at a place.

@@ -5,16 +5,8 @@ use Rattle.rules.proofs.Sequences.Masks.{bit, open_in}
 use Rattle.rules.specs.Processes.{with_open}
 use Rattle.process.proofs.with_open.Goals as goal
 
-pub returns-then-is_open : goal.returns-then-is_open
-unfolding with_open
-returns-then-is_open c = simp (sym c.is_open.ensures ∙ c.if-is_open.true)
-
 pub overflow_add-result : goal.overflow_add-result
 unfolding with_open
 overflow_add-result c =
     let shut = sym c.is_open.ensures ∙ c.if-is_open.false in
     record { fits = rw (bit _ c.requires) (simp shut at (open_in c.args.mask _ 16 c.requires (search rules))) }
-
-pub returns : goal.returns
-unfolding with_open
-returns c = rw (bit _ c.requires) (simp (sym c.is_open.ensures ∙ c.if-is_open.false))
