@@ -6,7 +6,6 @@ ghost use Rattle.rules.specs.Bounds.{Sized};
 ghost use Rattle.rules.specs.Figure4.{Step};
 ghost use Rattle.rules.specs.GoodForm.{process_fits};
 ghost use Rattle.rules.specs.Sizes.{words_used};
-ghost use Rattle.rules.specs.declared.Kind.TheVariants.{One, Many};
 ghost use Rattle.rules.specs.Steps.{first_place, beginning, process_step};
 
 use copy::{reads_announced, reads_header, reads_segment, reads_segment_again, swaps_segment};
@@ -17,32 +16,16 @@ use process::ends;
 use rules::{Answer, Answered, Call, Kind, Place, Process, Settings, Values};
 use word::Refusal;
 
-fn first_place_of_one(call: Call) -> Place
-    ensures { result ≡ first_place One call }
-{
-    match call {
-        Call::Load(x) => Place::LoadReadsWord(x),
-        Call::Validate(x) => Place::ValidateReadsWord(x),
-        Call::Store(x) => Place::StoreSwapsWord(x),
-    }
-}
-
-fn first_place_of_many(call: Call) -> Place
-    ensures { result ≡ first_place Many call }
-{
-    match call {
-        Call::Load(x) => Place::LoadReadsHeader(x),
-        Call::Validate(x) => Place::ValidateReadsHeader(x),
-        Call::Store(x) => Place::StoreReadsHeader(x),
-    }
-}
-
 pub fn first_place(kind: Kind, call: Call) -> Place
     ensures { result ≡ first_place kind call }
 {
-    match kind {
-        Kind::One => first_place_of_one(call),
-        Kind::Many => first_place_of_many(call),
+    match (kind, call) {
+        (Kind::One, Call::Load(x)) => Place::LoadReadsWord(x),
+        (Kind::One, Call::Validate(x)) => Place::ValidateReadsWord(x),
+        (Kind::One, Call::Store(x)) => Place::StoreSwapsWord(x),
+        (Kind::Many, Call::Load(x)) => Place::LoadReadsHeader(x),
+        (Kind::Many, Call::Validate(x)) => Place::ValidateReadsHeader(x),
+        (Kind::Many, Call::Store(x)) => Place::StoreReadsHeader(x),
     }
 }
 
@@ -50,16 +33,10 @@ pub fn first_place(kind: Kind, call: Call) -> Place
 pub fn beginning(s: Settings, call: Call, values: Values, p: Process) -> Process
     ensures { result ≡ beginning s call values p }
 {
-    let kind = s.kind;
-    let place = first_place(kind, call);
-    let keep = p.keep;
-    let gathered = p.gathered;
     Process {
-        place: place,
-        opened: p.opened,
-        keep: keep,
-        values: values,
-        gathered: gathered,
+        place: first_place(s.kind, call),
+        values,
+        ..p
     }
 }
 
