@@ -11,14 +11,7 @@ fn values_fit(s: Settings, values: [u64; 4]) -> bool
     requires { Sized s }
     ensures { result ≡ values_fit s values }
 {
-    let mut i = 0;
-    while i < 4 {
-        if !value_fits(s, values[i]) {
-            return false;
-        }
-        i += 1;
-    }
-    true
+    values.iter().all(|value| value_fits(s, *value))
 }
 
 fn kept_tags_fit(s: Settings, keep: [u64; 16]) -> bool
@@ -26,28 +19,21 @@ fn kept_tags_fit(s: Settings, keep: [u64; 16]) -> bool
     ensures { result ≡ kept_fit_by Many s keep }
 {
     let limit = s.layout.tag_limit();
-    let t = s.t;
-    let mut x = 0;
-    while x < t {
-        if keep[x] >= limit {
-            return false;
-        }
-        x += 1;
-    }
-    true
+    keep[..s.t].iter().all(|tag| *tag < limit)
 }
 
+#[tactic(auto, unfolding(rules::specs::GoodForm::kept_fit))]
 fn kept_fit(s: Settings, keep: [u64; 16]) -> bool
     requires { Sized s }
     ensures { result ≡ kept_fit s keep }
 {
-    let kind = s.kind;
-    match kind {
+    match s.kind {
         Kind::One => true,
         Kind::Many => kept_tags_fit(s, keep),
     }
 }
 
+#[tactic(auto, unfolding(rules::specs::GoodForm::open_fits))]
 fn open_fits(s: Settings, opened: u16) -> bool
     requires { Sized s }
     ensures { result ≡ open_fits s opened }
@@ -55,20 +41,16 @@ fn open_fits(s: Settings, opened: u16) -> bool
     (opened as u64) < (1 << (s.t as u64))
 }
 
+#[tactic(auto, unfolding(rules::specs::GoodForm::process_fits))]
 fn process_fits(s: Settings, p: Process) -> bool
     requires { Sized s }
     ensures { result ≡ process_fits s p }
 {
-    let at = p.place;
-    let keep = p.keep;
-    let new = p.values;
-    let told = p.gathered;
-    let place = place_fits(s, p.opened, at);
-    let sequences = open_fits(s, p.opened);
-    let kept = kept_fit(s, keep);
-    let values = values_fit(s, new);
-    let gathered = values_fit(s, told);
-    place & sequences & kept & values & gathered
+    place_fits(s, p.opened, p.place)
+        && open_fits(s, p.opened)
+        && kept_fit(s, p.keep)
+        && values_fit(s, p.values)
+        && values_fit(s, p.gathered)
 }
 
 pub(crate) fn processes_fit(board: Board) -> bool
@@ -76,14 +58,5 @@ pub(crate) fn processes_fit(board: Board) -> bool
     ensures { result ≡ processes_fit board }
 {
     let s = board.settings;
-    let n = s.n;
-    let mut me = 0;
-    while me < n {
-        let p = board.processes[me];
-        if !process_fits(s, p) {
-            return false;
-        }
-        me += 1;
-    }
-    true
+    board.processes[..s.n].iter().all(|p| process_fits(s, *p))
 }

@@ -14,63 +14,38 @@ fn headers_fit(s: Settings, mem: &[u64]) -> bool
     requires { Sized s × (used_by Many s ≤ length mem.now) }
     ensures { result ≡ headers_fit s mem.now }
 {
-    let t = s.t;
-    let mut x = 0;
-    while x < t {
-        let at = header_at(s, x);
-        if !names(s, mem[at]) {
-            return false;
-        }
-        x += 1;
-    }
-    true
+    (0..s.t).all(|x| names(s, mem[header_at(s, x)]))
 }
 
 fn row_fits(s: Settings, p: usize, mem: &[u64]) -> bool
     requires { Sized s × (used_by Many s ≤ length mem.now) × (p < s.n) }
     ensures { result ≡ row_fits s p mem.now }
 {
-    let w = s.w;
-    let mut i = 0;
-    while i < w {
-        let at = announce_at(s, p, i);
-        if !value_fits(s, mem[at]) {
-            return false;
-        }
-        i += 1;
-    }
-    true
+    (0..s.w).all(|i| value_fits(s, mem[announce_at(s, p, i)]))
 }
 
 fn rows_fit(s: Settings, mem: &[u64]) -> bool
     requires { Sized s × (used_by Many s ≤ length mem.now) }
     ensures { result ≡ rows_fit s mem.now }
 {
-    let n = s.n;
-    let mut p = 0;
-    while p < n {
-        if !row_fits(s, p, mem) {
-            return false;
-        }
-        p += 1;
-    }
-    true
+    (0..s.n).all(|p| row_fits(s, p, mem))
 }
 
+#[tactic(auto, unfolding(rules::specs::GoodForm::words_fit))]
 fn words_fit(s: Settings, mem: &[u64]) -> bool
     requires { Sized s × (words_used s ≤ length mem.now) }
     ensures { result ≡ words_fit s mem.now }
 {
-    let kind = s.kind;
-    match kind {
+    match s.kind {
         Kind::One => true,
-        Kind::Many => headers_fit(s, mem) & rows_fit(s, mem),
+        Kind::Many => headers_fit(s, mem) && rows_fit(s, mem),
     }
 }
 
+#[tactic(auto, unfolding(rules::specs::GoodForm::in_good_form))]
 pub fn in_good_form(board: Board, mem: &[u64]) -> bool
     requires { Sized board.settings × (words_used board.settings ≤ length mem.now) }
     ensures { result ≡ in_good_form board mem.now }
 {
-    processes_fit(board) & words_fit(board.settings, mem)
+    processes_fit(board) && words_fit(board.settings, mem)
 }

@@ -1,20 +1,19 @@
 -- `rows_fit` meets its contract. Assumes nothing.
-use mathlib.Core.Path.{◌∙◌, sym}
+use mathlib.Core.Path.{refl, ◌∙◌}
+use Prim.Native.Nat.{ℕ}
+use borrow.Author.Rules.{rules}
+use borrow.Author.Tests.{tests}
+use native.Mathlib.Omega.{arith}
+use Rattle.std.proofs.lemmas.Iterator.{YieldsList-from_range}
+use Rattle.std.proofs.lemmas.Iterator.Search.{all_from_yields_List}
 use Rattle.rules.specs.GoodForm as form
-use Rattle.rules.proofs.Trying.{none_yet, one_more_lem, one_fails, all_pass}
+use Rattle.form.proofs.Each.{each_counted}
 use Rattle.form.proofs.words.rows_fit.Goals as goal
-
-pub loop-p-init : goal.loop-p-init
-loop-p-init c = none_yet _ _
-
-pub returns-then-not-row_fits : goal.returns-then-not-row_fits
-unfolding form.rows_fit
-returns-then-not-row_fits c = one_fails _ _ _ c.loop-p-test.true (sym c.row_fits.ensures ∙ c.if-not-row_fits.true)
-
-pub loop-p-preserved : goal.loop-p-preserved
-loop-p-preserved c =
-    one_more_lem _ _ _ c.loop-p.invariant c.loop-p-test.true (sym c.row_fits.ensures ∙ c.if-not-row_fits.false)
 
 pub returns : goal.returns
 unfolding form.rows_fit
-returns c = all_pass _ _ _ c.loop-p.invariant c.loop-p-test.false
+returns c =
+    let fits = λ (i : ℕ). form.row_fits c.args.s i c.args.mem.now in
+    let n : ℕ = c.args.s.n in
+    all_from_yields_List fits _ _ _ c.all.ensures.ran (YieldsList-from_range 0 n n refl (omega arith)) (λ x b q k. search (rules, tests))
+    ∙ each_counted fits n
