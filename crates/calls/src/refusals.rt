@@ -1,5 +1,5 @@
 // What a begin checks of a process and a call: refusals 5 to 8, in document 01's order.
-ghost use Rattle.std.specs.Prelude.{◌≡◌, ◌&&◌, ◌||◌, ◌<◌, ltb, eqb};
+ghost use Rattle.std.specs.Prelude.{◌≡◌, ◌&&◌, ◌||◌, ◌<◌, nat_lt, ◌==◌};
 ghost use Rattle.rules.specs.Bounds.{Sized};
 ghost use Rattle.rules.specs.GoodForm.{value_fits};
 ghost use Rattle.rules.specs.Processes.{is_idle};
@@ -13,31 +13,14 @@ use word::Refusal;
 fn is_idle(place: Place) -> bool
     ensures { result ≡ is_idle place }
 {
-    match place {
-        Place::Idle => true,
-        Place::LoadReadsWord(_) => false,
-        Place::ValidateReadsWord(_) => false,
-        Place::StoreSwapsWord(_) => false,
-        Place::LoadReadsHeader(_) => false,
-        Place::ValidateReadsHeader(_) => false,
-        Place::StoreReadsHeader(_) => false,
-        Place::StoreAnnounces(_, _, _) => false,
-        Place::StoreSwapsHeader(_, _) => false,
-        Place::ReadsSegment(_) => false,
-        Place::ReadsAnnounced(_, _) => false,
-        Place::SwapsSegment(_, _, _) => false,
-        Place::ReadsSegmentAgain(_) => false,
-        Place::ReadsHeader(_, _) => false,
-    }
+    matches!(place, Place::Idle)
 }
 
 fn variable_of(call: Call) -> usize
     ensures { result ≡ variable_of call }
 {
     match call {
-        Call::Load(x) => x,
-        Call::Validate(x) => x,
-        Call::Store(x) => x,
+        Call::Load(x) | Call::Validate(x) | Call::Store(x) => x,
     }
 }
 
@@ -48,30 +31,22 @@ fn lacks_sequence(call: Call, opened: u16) -> bool
 {
     match call {
         Call::Load(_) => false,
-        Call::Validate(x) => !is_open(opened, x),
-        Call::Store(x) => !is_open(opened, x),
+        Call::Validate(x) | Call::Store(x) => !is_open(opened, x),
     }
 }
 
 fn all_blank(values: Values) -> bool
     ensures { result ≡ all_blank values }
 {
-    let mut i = 0;
-    while i < 4 {
-        if values[i] != 0 {
-            return false;
-        }
-        i += 1;
-    }
-    true
+    values == [0; 4]
 }
 
 // Whether value i of a store may stand there.
 fn is_storable(s: Settings, i: usize, value: u64) -> bool
     requires { Sized s }
-    ensures { result ≡ value_fits s value && (ltb i s.w || eqb value 0) }
+    ensures { result ≡ value_fits s value && (nat_lt i s.w || value == 0) }
 {
-    value_fits(s, value) & ((i < s.w) | (value == 0))
+    value_fits(s, value) && (i < s.w || value == 0)
 }
 
 // A store's values: each may stand where it is.
@@ -79,14 +54,10 @@ fn storable(s: Settings, values: Values) -> bool
     requires { Sized s }
     ensures { result ≡ storable s values }
 {
-    let mut i = 0;
-    while i < 4 {
-        if !is_storable(s, i, values[i]) {
-            return false;
-        }
-        i += 1;
-    }
-    true
+    values
+        .iter()
+        .enumerate()
+        .all(|(i, value)| is_storable(s, i, *value))
 }
 
 // A load or a validate has no values.
@@ -95,8 +66,7 @@ fn values_right(s: Settings, call: Call, values: Values) -> bool
     ensures { result ≡ values_right s call values }
 {
     match call {
-        Call::Load(_) => all_blank(values),
-        Call::Validate(_) => all_blank(values),
+        Call::Load(_) | Call::Validate(_) => all_blank(values),
         Call::Store(_) => storable(s, values),
     }
 }

@@ -1,19 +1,29 @@
--- `all_blank` meets its contract. Assumes nothing.
-use borrow.Author.Tests.{eq-eqb, ne_eqb}
+-- `all_blank` meets its contract: four values equal four zeros where each is 0. Assumes nothing.
+use mathlib.Core.Path.{◌≡◌, refl, ap, ◌∙◌, subst}
+use mathlib.Core.Bool.{Bool, ◌&&◌}
+use mathlib.Core.List.{List, [], ◌∷◌}
+use Prim.Native.Nat.{ℕ}
+use borrow.Author.Rules.{rules}
+use lib.Dec.{eqb}
+use lib.ListN.{get_or, length, replicate}
+use lib.Pointwise.{pointwise}
+use Rattle.std.specs.List.{list_all}
 use Rattle.rules.specs.Refusals as refusals
-use Rattle.rules.proofs.Trying.{none_yet, one_more_lem, one_fails, all_pass}
+use Rattle.form.proofs.Each.{each_listed}
 use Rattle.calls.proofs.refusals.all_blank.Goals as goal
 
-pub loop-i-init : goal.loop-i-init
-loop-i-init c = none_yet _ _
+abbrev zero_at : ℕ → Bool
+zero_at value = eqb value 0
 
-pub returns-then-values-i-ne0 : goal.returns-then-values-i-ne0
-unfolding refusals.all_blank
-returns-then-values-i-ne0 c = one_fails _ _ _ c.loop-i-test.true (ne_eqb _ _ c.if-values-i-ne0.true)
-
-pub loop-i-preserved : goal.loop-i-preserved
-loop-i-preserved c = one_more_lem _ _ _ c.loop-i.invariant c.loop-i-test.true (eq-eqb _ _ c.if-values-i-ne0.false)
+zeros : (xs : List ℕ) → pointwise eqb xs (replicate (length xs) 0) ≡ list_all zero_at xs
+zeros [] = refl
+zeros (x ∷ xs) = ap (λ (b : Bool). zero_at x && b) (zeros xs)
 
 pub returns : goal.returns
 unfolding refusals.all_blank
-returns c = all_pass _ _ _ c.loop-i.invariant c.loop-i-test.false
+returns c =
+    let values = c.args.values in
+    let long : length values ≡ 4 = search rules in
+    c.eq.ensures
+    ∙ subst (λ (n : ℕ). pointwise eqb values (replicate n 0) ≡ list_all zero_at values) long (zeros values)
+    ∙ each_listed zero_at (λ i. zero_at (get_or values i 0)) 0 4 values long (λ k l. refl)
