@@ -50,11 +50,7 @@ fn clear(used: usize, mem: &mut [u64])
     requires { used ≤ length mem.old }
     ensures { mem.new ≡ replicate used 0 ++ drop used mem.old }
 {
-    let mut i = 0;
-    while i < used {
-        mem[i] = 0;
-        i += 1;
-    }
+    mem[..used].fill(0);
 }
 
 #[tactic(auto, using(rules::proofs::Refusals::Served::sizes_served), unfolding(rules::specs::Entry::set_up_rule))]
