@@ -77,20 +77,16 @@ pub(crate) fn call_check(s: Settings, p: Process, call: Call, values: Values) ->
     requires { Sized s }
     ensures { result ≡ call_check s p call values }
 {
-    let place = p.place;
     if variable_of(call) >= s.t {
         return Err(Refusal::NoSuchVariable);
     }
-    let busy = !is_idle(place);
-    let lacks = lacks_sequence(call, p.opened);
-    let right = values_right(s, call, values);
-    if busy {
+    if !is_idle(p.place) {
         return Err(Refusal::CallInProgress);
     }
-    if lacks {
+    if lacks_sequence(call, p.opened) {
         return Err(Refusal::NoOpenSequence);
     }
-    if !right {
+    if !values_right(s, call, values) {
         return Err(Refusal::ValueTooGreat);
     }
     Ok(())

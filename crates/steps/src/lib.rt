@@ -12,8 +12,7 @@ use copy::{reads_announced, reads_header, reads_segment, reads_segment_again, sw
 use many::store::{store_announces, store_reads_header, store_swaps_header};
 use many::{load_reads_header, validate_reads_header};
 use one::{load_reads_word, store_swaps_word, validate_reads_word};
-use process::ends;
-use rules::{Answer, Answered, Call, Kind, Place, Process, Settings, Values};
+use rules::{Answered, Call, Kind, Place, Process, Settings, Values};
 use word::Refusal;
 
 pub fn first_place(kind: Kind, call: Call) -> Place
@@ -45,8 +44,7 @@ pub fn process_step(s: Settings, p: Process, me: usize, mem: &mut [u64]) -> Answ
     requires { Sized s × (words_used s ≤ length mem.old) × (me < s.n) × (process_fits s p ≡ true) }
     ensures { ◌≡◌ {A = Step} (result, mem.new) (process_step s p me mem.old) }
 {
-    let place = p.place;
-    match place {
+    match p.place {
         Place::Idle => Answered {
             after: p,
             answer: Err(Refusal::ProcessIdle),
