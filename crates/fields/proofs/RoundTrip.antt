@@ -9,7 +9,7 @@ use lib.ListN.{length, get_or, get_or-append}
 use borrow.Author.Tests.{lt-ltb, ne_eqb, le-leb, leb-true}
 use Rattle.fields.specs.Number.{value_from, all_digits, is_digit, zero_leads, number_case, number_of}
 use Rattle.fields.specs.Decimal.{decimal, followed_by}
-use Rattle.fields.specs.declared.number.Number.TheVariants.{Value}
+use Rattle.std.specs.Prelude.{Some}
 use Rattle.rules.proofs.Tests.{and_both}
 use Rattle.fields.proofs.Decimals.{by_digits}
 
@@ -55,7 +55,7 @@ no_zero_leads n a s = by_test (leb 2 (length a)) refl
     by_test true e = ne_eqb (get_or a 0 0) 48 (s.2 (s.3 (leb-true 2 (length a) e)))
     by_test false e = refl
 
-pub round_trip : (n : ℕ) → n < 2 ^ 64 → number_of (decimal n) ≡ Value n
+pub round_trip : (n : ℕ) → n < 2 ^ 64 → number_of (decimal n) ≡ Some n
 unfolding number_of number_case
 round_trip n h =
     let r = by_digits Spelt one_spelt more_spelt 20 n (omega arith) (omega arith) in

@@ -1,8 +1,7 @@
 -- Document 01: numbers are decimal, no sign, no leading zero but 0 itself, below 2^64.
-use Rattle.std.specs.Prelude.{ℕ, ◌+◌, ◌*◌, ◌-◌, ◌^◌, Bool, true, cond, ◌&&◌, List, [], ◌∷◌, eqb, leb, ltb, length, get_or}
+use Rattle.std.specs.Prelude.{ℕ, ◌+◌, ◌*◌, ◌-◌, ◌^◌, Bool, cond, ◌&&◌, List, [], ◌∷◌, eqb, leb, ltb, length, get_or, Option, Some, None}
+use Rattle.std.specs.List.{list_all}
 use Rattle.fields.specs.Bytes.{zero_digit, nine_digit}
-use Rattle.fields.specs.declared.number.Number.{Number}
-use Rattle.fields.specs.declared.number.Number.TheVariants.{Value, NotInForm}
 
 -- what a field holds: a number, or why it holds none
 pub data NumberCase : Type 0 where
@@ -16,8 +15,7 @@ abbrev pub is_digit : ℕ → Bool
 is_digit x = leb zero_digit x && leb x nine_digit
 
 unfoldable pub all_digits : List ℕ → Bool
-all_digits [] = true
-all_digits (x ∷ xs) = is_digit x && all_digits xs
+all_digits s = list_all is_digit s
 
 -- a zero with something after it
 unfoldable pub zero_leads : List ℕ → Bool
@@ -39,18 +37,13 @@ number_case s =
     NotADigit))
 
 -- the answer does not tell the reasons apart
-abbrev pub number_in : NumberCase → Number
-number_in (Spells n) = Value n
-number_in Blank = NotInForm
-number_in LeadingZero = NotInForm
-number_in NotADigit = NotInForm
-number_in TooGreat = NotInForm
+abbrev pub number_in : NumberCase → Option ℕ
+number_in (Spells n) = Some n
+number_in Blank = None
+number_in LeadingZero = None
+number_in NotADigit = None
+number_in TooGreat = None
 
 -- the number in a field
-unfoldable pub number_of : List ℕ → Number
+unfoldable pub number_of : List ℕ → Option ℕ
 number_of s = number_in (number_case s)
-
--- with the number that was read, or what stands for none
-abbrev pub with_number {ℓ} : {A : Type ℓ} → Number → A → (ℕ → A) → A
-with_number (Value n) none some = some n
-with_number NotInForm none some = none

@@ -7,7 +7,7 @@ mod parts;
 mod shape;
 mod spans;
 
-pub use number::{Number, number_at, read_number};
+pub use number::{number_at, read_number};
 pub use parts::{blank_from, field};
 pub use shape::{body, body_length, in_form};
 pub use spans::{Span, field_span};

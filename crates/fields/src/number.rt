@@ -5,89 +5,49 @@ ghost use Rattle.fields.specs.Fields.{field_of};
 
 use super::parts::field;
 
-#[derive(Clone, Copy)]
-pub enum Number {
-    Value(u64),
-    NotInForm,
-}
-
-// A tenth of the greatest number, rounded down: a greater one has no room for a digit more.
-const MOST_TENTH: u64 = 1844674407370955161;
-
-const MOST: u64 = 18446744073709551615;
-
 // Whether a zero stands before other digits: 0 itself does not begin with a leading zero.
+#[tactic(auto, unfolding(crate::specs::Number::zero_leads))]
 fn zero_leads(digits: &[u8]) -> bool
     ensures { result ≡ zero_leads digits.now }
 {
-    if digits.len() < 2 {
-        return false;
-    }
-    digits[0] == b'0'
+    digits.len() >= 2 && digits[0] == b'0'
 }
 
+#[tactic(auto, unfolding(crate::specs::Number::all_digits))]
 fn are_digits(bytes: &[u8]) -> bool
     ensures { result ≡ all_digits bytes.now }
 {
-    let mut i: usize = 0;
-    while i < bytes.len() {
-        if bytes[i] < b'0' {
-            return false;
-        }
-        if bytes[i] > b'9' {
-            return false;
-        }
-        i += 1;
-    }
-    true
-}
-
-fn wide(x: u8) -> u64
-    ensures { result ≡ x }
-{
-    x as u64
+    bytes.iter().all(|byte| byte.is_ascii_digit())
 }
 
 // The value that digits spell, if it is below 2^64.
-fn value_of(digits: &[u8]) -> Number
+#[tactic(auto, using(crate::proofs::Numbers::digits_read))]
+fn value_of(digits: &[u8]) -> Option<u64>
     requires { all_digits digits.now ≡ true }
     ensures { result ≡ number_in (value_case (value_from 0 digits.now)) }
 {
-    let mut i: usize = 0;
     let mut value: u64 = 0;
-    while i < digits.len() {
-        if value > MOST_TENTH {
-            return Number::NotInForm;
-        }
-        let tens = value * 10;
-        let digit = wide(digits[i] - b'0');
-        if digit > MOST - tens {
-            return Number::NotInForm;
-        }
-        value = tens + digit;
-        i += 1;
+    for digit in digits {
+        value = value
+            .checked_mul(10)?
+            .checked_add(u64::from(*digit - b'0'))?;
     }
-    Number::Value(value)
+    Some(value)
 }
 
 // The number in a field.
-pub fn read_number(bytes: &[u8]) -> Number
+#[tactic(auto, unfolding(crate::specs::Number::number_of, crate::specs::Number::number_case))]
+pub fn read_number(bytes: &[u8]) -> Option<u64>
     ensures { result ≡ number_of bytes.now }
 {
-    if bytes.len() == 0 {
-        return Number::NotInForm;
+    if bytes.is_empty() || zero_leads(bytes) || !are_digits(bytes) {
+        return None;
     }
-    if zero_leads(bytes) {
-        return Number::NotInForm;
-    }
-    if are_digits(bytes) {
-        return value_of(bytes);
-    }
-    Number::NotInForm
+    value_of(bytes)
 }
 
 // The number in field k of a record.
-pub fn number_at(bytes: &[u8], k: usize) -> Number
+pub fn number_at(bytes: &[u8], k: usize) -> Option<u64>
     ensures { result ≡ number_of (field_of bytes.now k) }
 {
     read_number(field(bytes, k))
