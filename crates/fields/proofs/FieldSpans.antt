@@ -131,3 +131,7 @@ span_bytes s k =
 pub body_bytes : (s : List ℕ) → bytes_in (body_span s) s ≡ body_of s
 unfolding body_of
 body_bytes s = let e : body_length s - 0 ≡ body_length s = omega arith in ap (λ (n : ℕ). take n s) e
+
+-- the same, for a proof that has the field
+pub field_is_bytes : (s : List ℕ) (k : ℕ) → field_of s k ≡ bytes_in (span_of s k) s
+field_is_bytes s k = sym (span_bytes s k)

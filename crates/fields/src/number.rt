@@ -47,6 +47,7 @@ pub fn read_number(bytes: &[u8]) -> Option<u64>
 }
 
 // The number in field k of a record.
+#[tactic(auto, using(crate::proofs::FieldSpans::field_is_bytes))]
 pub fn number_at(bytes: &[u8], k: usize) -> Option<u64>
     ensures { result ≡ number_of (field_of bytes.now k) }
 {

@@ -1,4 +1,3 @@
--- Words compared byte by byte (SameBytes), the values of a store (Values), and records computed (Cases).
-pub mod SameBytes
+-- The values of a store (Values), and records computed (Cases).
 pub mod Values
 pub mod Cases

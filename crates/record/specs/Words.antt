@@ -1,11 +1,8 @@
 -- Document 01: the acts `LL`, `VL`, `SC`, `step` and the kinds `one` and `many`; a word counts only if it is exactly one of them.
-use Rattle.std.specs.Prelude.{ℕ, Bool, true, false, cond, ◌&&◌, List, [], ◌∷◌, eqb}
+use Rattle.std.specs.Prelude.{ℕ, List, Option, Some, None, option_and_then, if◌then◌else◌}
+use Rattle.std.specs.Str.{bytes_eq}
 use Rattle.record.specs.declared.Act.{Act}
 use Rattle.record.specs.declared.Act.TheVariants.{Load, Validate, Store, Step}
-use Rattle.record.specs.declared.words.ActRead.{ActRead}
-use Rattle.record.specs.declared.words.ActRead.TheVariants.{Known, Unknown}
-use Rattle.record.specs.declared.words.KindRead.{KindRead}
-use Rattle.record.specs.declared.words.KindRead.TheVariants.{Known as KnownKind, Unknown as UnknownKind}
 use Rattle.rules.specs.Text.{ascii, load_text, validate_text, store_text, step_text}
 use Rattle.rules.specs.declared.Kind.{Kind}
 use Rattle.rules.specs.declared.Kind.TheVariants.{One, Many}
@@ -20,32 +17,20 @@ abbrev pub kind_word : Kind → List ℕ
 kind_word One = ascii "one"
 kind_word Many = ascii "many"
 
--- two lists have the same bytes
-unfoldable pub same : List ℕ → List ℕ → Bool
-same [] [] = true
-same [] (y ∷ ys) = false
-same (x ∷ xs) [] = false
-same (x ∷ xs) (y ∷ ys) = eqb x y && same xs ys
-
-unfoldable pub act_of : List ℕ → ActRead
+unfoldable pub act_of : List ℕ → Option Act
 act_of s =
-    cond (same s (act_word Load)) (Known Load)
-    (cond (same s (act_word Validate)) (Known Validate)
-    (cond (same s (act_word Store)) (Known Store)
-    (cond (same s (act_word Step)) (Known Step)
-    Unknown)))
+    if bytes_eq s (act_word Load) then Some Load
+    else if bytes_eq s (act_word Validate) then Some Validate
+    else if bytes_eq s (act_word Store) then Some Store
+    else if bytes_eq s (act_word Step) then Some Step
+    else None
 
-unfoldable pub kind_of : List ℕ → KindRead
+unfoldable pub kind_of : List ℕ → Option Kind
 kind_of s =
-    cond (same s (kind_word One)) (KnownKind One)
-    (cond (same s (kind_word Many)) (KnownKind Many)
-    UnknownKind)
+    if bytes_eq s (kind_word One) then Some One
+    else if bytes_eq s (kind_word Many) then Some Many
+    else None
 
--- with the act or the kind that was read, or what stands for none
-abbrev pub with_act {ℓ} : {A : Type ℓ} → ActRead → A → (Act → A) → A
-with_act (Known act) none some = some act
-with_act Unknown none some = none
-
-abbrev pub with_kind {ℓ} : {A : Type ℓ} → KindRead → A → (Kind → A) → A
-with_kind (KnownKind kind) none some = some kind
-with_kind UnknownKind none some = none
+-- with what a field says; nothing where it says nothing
+abbrev pub with_field : {A B : Type 0} → Option A → (A → Option B) → Option B
+with_field field rest = option_and_then rest field

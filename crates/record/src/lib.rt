@@ -5,8 +5,8 @@ mod entries;
 mod setup;
 mod words;
 
-pub use entries::{Entry, ScheduleRead, at_most_four, read_schedule};
-pub use setup::{SettingsRead, read_settings};
+pub use entries::{Entry, at_most_four, read_schedule};
+pub use setup::read_settings;
 
 // The acts of document 01: LL, VL, SC and step.
 #[derive(Clone, Copy)]

@@ -2,68 +2,40 @@
 ghost use Rattle.std.specs.Prelude.{◌≡◌};
 ghost use Rattle.record.specs.Setup.{settings_from, settings_of};
 
-use super::words::{KindRead, read_kind};
-use fields::{Number, blank_from, field, in_form, number_at};
+use super::words::read_kind;
+use fields::{blank_from, field, in_form, number_at};
 use rules::Settings;
 use word::{Layout, Refusal};
 
-// The settings as given: whether they are within the sizes is not judged here.
-#[derive(Clone, Copy)]
-pub enum SettingsRead {
-    Read(Settings),
-    Refused(Refusal),
-}
-
-// The settings in the fields, or refusal 11 where one of them is not in form.
-fn settings_from(
-    n: Number,
-    kind: KindRead,
-    t: Number,
-    b: Number,
-    w: Number,
-    blank: bool,
-) -> SettingsRead
-    ensures { result ≡ settings_from n kind t b w blank }
+// The settings as given, if each field is in form: whether they are within the sizes is not judged here.
+#[tactic(auto, using(fields::proofs::FieldSpans::field_is_bytes), unfolding(crate::specs::Setup::settings_from))]
+fn settings_from(bytes: &[u8]) -> Option<Settings>
+    ensures { result ≡ settings_from bytes.now }
 {
-    let Number::Value(processes) = n else {
-        return SettingsRead::Refused(Refusal::FieldNotInForm);
-    };
-    let KindRead::Known(known) = kind else {
-        return SettingsRead::Refused(Refusal::FieldNotInForm);
-    };
-    let Number::Value(variables) = t else {
-        return SettingsRead::Refused(Refusal::FieldNotInForm);
-    };
-    let Number::Value(bits) = b else {
-        return SettingsRead::Refused(Refusal::FieldNotInForm);
-    };
-    let Number::Value(segments) = w else {
-        return SettingsRead::Refused(Refusal::FieldNotInForm);
-    };
-    if blank {
-        return SettingsRead::Read(Settings {
-            kind: known,
-            n: processes as usize,
-            t: variables as usize,
-            w: segments as usize,
-            layout: Layout { bits: bits },
-        });
+    let n = number_at(bytes, 0)? as usize;
+    let kind = read_kind(field(bytes, 1))?;
+    let t = number_at(bytes, 2)? as usize;
+    let bits = number_at(bytes, 3)?;
+    let w = number_at(bytes, 4)? as usize;
+    if !blank_from(bytes, 5) {
+        return None;
     }
-    SettingsRead::Refused(Refusal::FieldNotInForm)
+    Some(Settings {
+        kind,
+        n,
+        t,
+        w,
+        layout: Layout { bits },
+    })
 }
 
 // What the first record says.
-pub fn read_settings(bytes: &[u8]) -> SettingsRead
+#[tactic(auto, unfolding(crate::specs::Setup::settings_of))]
+pub fn read_settings(bytes: &[u8]) -> Result<Settings, Refusal>
     ensures { result ≡ settings_of bytes.now }
 {
     if !in_form(bytes) {
-        return SettingsRead::Refused(Refusal::RecordNotInForm);
+        return Err(Refusal::RecordNotInForm);
     }
-    let n = number_at(bytes, 0);
-    let kind = read_kind(field(bytes, 1));
-    let t = number_at(bytes, 2);
-    let b = number_at(bytes, 3);
-    let w = number_at(bytes, 4);
-    let blank = blank_from(bytes, 5);
-    settings_from(n, kind, t, b, w, blank)
+    settings_from(bytes).ok_or(Refusal::FieldNotInForm)
 }
