@@ -15,7 +15,10 @@ use Rattle.rules.specs.Runs.{State, Event, begin, step, entry, after, process_of
 use Rattle.rules.specs.Sizes.{settings_fit, words_used}
 use Rattle.rules.specs.declared.Answered.{Answered}
 use Rattle.rules.specs.declared.Board.{Board}
-use Rattle.rules.specs.declared.Moved.{Moved}
+use Rattle.std.specs.Prelude.{Option, Some, None, Result, Ok, Err}
+use Rattle.std.specs.Result.{result_ok}
+use Rattle.word.specs.declared.Refusal.{Refusal}
+use Rattle.rules.specs.Figure4.{Step as Moved}
 use Rattle.rules.specs.declared.Process.{Process}
 use Rattle.rules.specs.declared.Settings.{Settings}
 use Rattle.rules.proofs.GoodForm.Runs.{begin_in_form, step_in_form}
@@ -23,14 +26,12 @@ use Rattle.rules.proofs.Changes.Leaves.{begin_settings, step_settings, step_leng
 use Rattle.rules.proofs.Refusals.OneProcess.{same_board}
 use Rattle.record.specs.declared.Act.{Act}
 use Rattle.record.specs.declared.entries.Entry.{Entry}
-use Rattle.record.specs.declared.entries.Entry.TheVariants.{Begin, Step, Refused}
+use Rattle.record.specs.declared.entries.Entry.TheVariants.{Begin, Step}
 use Rattle.printout.specs.Row.{row_of}
 use Rattle.printout.specs.declared.Who.TheVariants.{Process as ProcessAt}
-use Rattle.printout.specs.declared.Open.{Open}
-use Rattle.printout.specs.declared.Open.TheVariants.{Blank, Count}
 use Rattle.answers.specs.Moves.{slot_in, slot_of, move_of, process_row, row_by, begins, steps}
 use Rattle.answers.specs.Order.{InOrder}
-use Rattle.answers.specs.Run.{Run, Told, event_act, open_after, state_of, numbered_row, event_told, nobodys_row, by_entry}
+use Rattle.answers.specs.Run.{Run, Told, event_act, state_of, numbered_row, event_told, nobodys_row, by_entry}
 use Rattle.answers.specs.declared.Stage.TheVariants.{Running}
 use Rattle.answers.proofs.OneProcess.{all_sized, one_of, none_of, begun, not_begun, took, not_took}
 
@@ -57,37 +58,36 @@ order_after (step me) state o =
 -- the open count after it
 count_mine : (board : Board) (me : ℕ) (q : Process) (words : List ℕ) → InOrder (put_process board me q) words
     → ltb me board.settings.n ≡ true → me < length board.processes
-    → open_after (open_count_rule (put_process board me q) me words) ≡ Count (open_count q.opened board.settings.t)
+    → result_ok (open_count_rule (put_process board me q) me words) ≡ Some (open_count q.opened board.settings.t)
 unfolding open_count_rule
 count_mine board me q words o mine inside =
     rw (one_of (put_process board me q) words o me mine, get_or-set_same board.processes me q nobody inside)
 
 count_past : (board : Board) (me : ℕ) (words : List ℕ) → InOrder board words → ltb me board.settings.n ≡ false
-    → open_after (open_count_rule board me words) ≡ Blank
+    → result_ok (open_count_rule board me words) ≡ None
 unfolding open_count_rule
 count_past board me words o past = rw (none_of board words o me past)
 
 -- what an event tells, by what it gives
-abbrev told_by : ℕ → ℕ → Act → ℕ → Answered × List ℕ → Told
+abbrev told_by : ℕ → ℕ → Act → ℕ → Answered Board × List ℕ → Told
 told_by number me act w r =
     record {
       printed = row_of (record {
         number = number;
         who = ProcessAt me act;
         answer = r.0.answer;
-        «open» = open_after (open_count_rule r.0.board me r.1);
+        «open» = result_ok (open_count_rule r.0.after me r.1);
         w = w;
-        values = r.0.values;
       });
-      run = record { stage = Running; board = r.0.board; words = r.1; count = number };
+      run = record { stage = Running; board = r.0.after; words = r.1; count = number };
     }
 
 -- the same, by the process that it moves
-abbrev told_at : ℕ → Settings → ℕ → Act → Board → ℕ → Moved × List ℕ → Told
+abbrev told_at : ℕ → Settings → ℕ → Act → Board → ℕ → Moved → Told
 told_at number s me act board i m =
     record {
       printed = row_of (process_row number s me act m.0);
-      run = record { stage = Running; board = put_process board i m.0.process; words = m.1; count = number };
+      run = record { stage = Running; board = put_process board i m.0.after; words = m.1; count = number };
     }
 
 module _ (run : Run) (o : InOrder run.board run.words) where
@@ -100,40 +100,40 @@ module _ (run : Run) (o : InOrder run.board run.words) where
       omega (arith, o.form.shaped.processes, ltb-true me run.board.settings.n mine)
 
   -- an event of a process of the board
-  mine_told : (event : Event) (m : Moved × List ℕ) → ltb (process_of event) run.board.settings.n ≡ true
+  mine_told : (event : Event) (m : Moved) → ltb (process_of event) run.board.settings.n ≡ true
       → entry event (state_of run) ≡ stepped run.board (process_of event) m
       → event_told run event ≡ told_at (run.count + 1) run.board.settings (process_of event) (event_act event) run.board (process_of event) m
   unfolding event_told numbered_row
   mine_told event m mine e =
       let me = process_of event in
       let after_order = order_after event (state_of run) o in
-      let order : InOrder (put_process run.board me m.0.process) m.1 =
-      subst (λ (r : Answered × List ℕ). InOrder r.0.board r.1) e after_order in
-      let count = count_mine run.board me m.0.process m.1 order mine (in_range me mine) in
+      let order : InOrder (put_process run.board me m.0.after) m.1 =
+      subst (λ (r : Answered Board × List ℕ). InOrder r.0.after r.1) e after_order in
+      let count = count_mine run.board me m.0.after m.1 order mine (in_range me mine) in
       ap (told_by (run.count + 1) me (event_act event) run.board.settings.w) e
-      ∙ ap (λ (x : Open). record {
-        printed = row_of (record { number = run.count + 1; who = ProcessAt me (event_act event); answer = m.0.answer; «open» = x; w = run.board.settings.w; values = m.0.values });
-        run = record { stage = Running; board = put_process run.board me m.0.process; words = m.1; count = run.count + 1 };
-      }) (count ∙ ap (λ (t : Bool). cond t (Count (open_count m.0.process.opened run.board.settings.t)) Blank) (sym mine))
+      ∙ ap (λ (x : Option ℕ). record {
+        printed = row_of (record { number = run.count + 1; who = ProcessAt me (event_act event); answer = m.0.answer; «open» = x; w = run.board.settings.w });
+        run = record { stage = Running; board = put_process run.board me m.0.after; words = m.1; count = run.count + 1 };
+      }) (count ∙ ap (λ (t : Bool). cond t (Some (open_count m.0.after.opened run.board.settings.t)) None) (sym mine))
 
   -- an event of a process that the board has not
-  past_told : (event : Event) (m : Moved × List ℕ) → ltb (process_of event) run.board.settings.n ≡ false
+  past_told : (event : Event) (m : Moved) → ltb (process_of event) run.board.settings.n ≡ false
       → entry event (state_of run) ≡ stepped run.board 0 m
       → event_told run event ≡ told_at (run.count + 1) run.board.settings (process_of event) (event_act event) run.board 0 m
   unfolding event_told numbered_row
   past_told event m past e =
       let me = process_of event in
-      let order : InOrder (put_process run.board 0 m.0.process) m.1 =
-      subst (λ (r : Answered × List ℕ). InOrder r.0.board r.1) e (order_after event (state_of run) o) in
-      let count = count_past (put_process run.board 0 m.0.process) me m.1 order past in
+      let order : InOrder (put_process run.board 0 m.0.after) m.1 =
+      subst (λ (r : Answered Board × List ℕ). InOrder r.0.after r.1) e (order_after event (state_of run) o) in
+      let count = count_past (put_process run.board 0 m.0.after) me m.1 order past in
       ap (told_by (run.count + 1) me (event_act event) run.board.settings.w) e
-      ∙ ap (λ (x : Open). record {
-        printed = row_of (record { number = run.count + 1; who = ProcessAt me (event_act event); answer = m.0.answer; «open» = x; w = run.board.settings.w; values = m.0.values });
-        run = record { stage = Running; board = put_process run.board 0 m.0.process; words = m.1; count = run.count + 1 };
-      }) (count ∙ ap (λ (t : Bool). cond t (Count (open_count m.0.process.opened run.board.settings.t)) Blank) (sym past))
+      ∙ ap (λ (x : Option ℕ). record {
+        printed = row_of (record { number = run.count + 1; who = ProcessAt me (event_act event); answer = m.0.answer; «open» = x; w = run.board.settings.w });
+        run = record { stage = Running; board = put_process run.board 0 m.0.after; words = m.1; count = run.count + 1 };
+      }) (count ∙ ap (λ (t : Bool). cond t (Some (open_count m.0.after.opened run.board.settings.t)) None) (sym past))
 
   -- either way, at the slot
-  slot_told : (event : Event) (m : Process → Moved × List ℕ)
+  slot_told : (event : Event) (m : Process → Moved)
       → (ltb (process_of event) run.board.settings.n ≡ true
       → entry event (state_of run) ≡ stepped run.board (process_of event) (m (process_at run.board (process_of event))))
       → (ltb (process_of event) run.board.settings.n ≡ false
@@ -150,43 +150,43 @@ module _ (run : Run) (o : InOrder run.board run.words) where
       go true e = mine_told event (m (process_at run.board (process_of event))) e (mine e)
       go false e = past_told event (m (process_at run.board 0)) e (past e)
 
-  abbrev pub slot : Entry → ℕ
+  abbrev pub slot : Result Entry Refusal → ℕ
   slot asked = slot_of asked run.board.settings.n
 
-  abbrev pub move : Entry → List ℕ → Moved × List ℕ
-  move asked values = move_of run.board.settings asked values (process_at run.board (slot asked)) run.words
+  abbrev pub move : Result Entry Refusal → Moved
+  move asked = move_of run.board.settings asked (process_at run.board (slot asked)) run.words
 
-  abbrev pub tells : Entry → List ℕ → Told
-  tells asked values =
+  abbrev pub tells : Result Entry Refusal → Told
+  tells asked =
       record {
-        printed = row_of (row_by (run.count + 1) run.board.settings asked (move asked values).0);
+        printed = row_of (row_by (run.count + 1) run.board.settings asked (move asked).0);
         run = record {
           stage = Running;
-          board = put_process run.board (slot asked) (move asked values).0.process;
-          words = (move asked values).1;
+          board = put_process run.board (slot asked) (move asked).0.after;
+          words = (move asked).1;
           count = run.count + 1;
         };
       }
 
-  pub entry_told : (asked : Entry) (values : List ℕ) → by_entry run asked values ≡ tells asked values
-  entry_told (Begin me call) values =
+  pub entry_told : (asked : Result Entry Refusal) → by_entry run asked ≡ tells asked
+  entry_told (Ok (Begin me call values)) =
       slot_told (begin me call values) (λ p. (begins run.board.settings me call values p, run.words))
       (λ mine. begun run.board run.words o call values me mine) (λ past. not_begun run.board run.words o call values me past)
-  entry_told (Step me) values =
+  entry_told (Ok (Step me)) =
       slot_told (step me) (λ p. steps run.board.settings me p run.words)
       (λ mine. took run.board run.words o me mine) (λ past. not_took run.board run.words o me past)
-  entry_told (Refused why) values =
+  entry_told (Err why) =
       ap (λ (b : Board). record {
         printed = row_of (nobodys_row (run.count + 1) why);
         run = record { stage = Running; board = b; words = run.words; count = run.count + 1 };
       }) (sym (same_board run.board 0))
 
   -- and the run is in order after it
-  by_order : (asked : Entry) (values : List ℕ) → InOrder (by_entry run asked values).run.board (by_entry run asked values).run.words
+  by_order : (asked : Result Entry Refusal) → InOrder (by_entry run asked).run.board (by_entry run asked).run.words
   unfolding event_told
-  by_order (Begin me call) values = order_after (begin me call values) (state_of run) o
-  by_order (Step me) values = order_after (step me) (state_of run) o
-  by_order (Refused why) values = o
+  by_order (Ok (Begin me call values)) = order_after (begin me call values) (state_of run) o
+  by_order (Ok (Step me)) = order_after (step me) (state_of run) o
+  by_order (Err why) = o
 
-  pub entry_order : (asked : Entry) (values : List ℕ) → InOrder (tells asked values).run.board (tells asked values).run.words
-  entry_order asked values = subst (λ (t : Told). InOrder t.run.board t.run.words) (entry_told asked values) (by_order asked values)
+  pub entry_order : (asked : Result Entry Refusal) → InOrder (tells asked).run.board (tells asked).run.words
+  entry_order asked = subst (λ (t : Told). InOrder t.run.board t.run.words) (entry_told asked) (by_order asked)

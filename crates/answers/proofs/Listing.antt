@@ -15,5 +15,5 @@ use Rattle.answers.specs.Records.{records_from}
 use Rattle.answers.specs.Run.{set_up_told, numbered_row, event_told, schedule_told, record_told, rows_of, printout_of}
 
 pub holds : Listing
-unfolding rules record_form.closed record_form.body_length record_form.body_of record_form.no_stray record_form.commas record_form.in_form fields.up_to_comma fields.past_comma fields.part_of fields.field_of number.all_digits number.zero_leads number.value_from number.number_case number.number_of blanks.blanks blanks.blank_from record_words.same record_words.act_of record_words.kind_of setup.settings_of schedule.values_in_form schedule.values_of schedule.values_read schedule.step_of schedule.call_of schedule.schedule_of decimals.decimal_in row.row_of records_from set_up_told numbered_row event_told schedule_told record_told rows_of printout_of
+unfolding rules record_form.closed record_form.body_length record_form.body_of record_form.no_stray record_form.commas record_form.in_form fields.up_to_comma fields.past_comma fields.part_of fields.field_of number.all_digits number.zero_leads number.value_from number.number_case number.number_of blanks.blanks blanks.blank_from record_words.act_of record_words.kind_of setup.settings_from setup.settings_of schedule.values_read schedule.step_of schedule.call_of schedule.entry_in schedule.schedule_of decimals.decimal_in row.row_of records_from set_up_told numbered_row event_told schedule_told record_told rows_of printout_of
 holds = refl

@@ -7,13 +7,13 @@ use borrow.Author.Tests.{ltb-true, ltb-false, le-leb}
 use lib.Dec.{ltb}
 use Rattle.word.specs.declared.Refusal.TheVariants.{NoSuchProcess}
 use Rattle.rules.specs.Bounds.{Sized}
-use Rattle.rules.specs.Entry.{refusing, begin_rule, step_rule, stepped}
-use Rattle.rules.specs.Processes.{process_at}
+use Rattle.rules.specs.Entry.{begin_rule, step_rule, stepped}
+use Rattle.rules.specs.Processes.{process_at, refusing}
 use Rattle.rules.specs.Refusals.{process_check, begin_check, step_check}
 use Rattle.rules.specs.declared.Answered.{Answered}
 use Rattle.rules.specs.declared.Board.{Board}
 use Rattle.rules.specs.declared.Call.{Call}
-use Rattle.rules.specs.declared.Check.TheVariants.{Fine, Refused}
+use Rattle.std.specs.Prelude.{Ok, Err}
 use Rattle.rules.proofs.Refusals.Checked.{Stands, stands_fine, accepted_fine}
 use Rattle.rules.proofs.Refusals.OneProcess.{same_board, step_served}
 use Rattle.rules.proofs.Sizes.Sized.{sized}
@@ -28,10 +28,10 @@ module _ (board : Board) (words : List ℕ) (o : InOrder board words) where
   pub all_sized : Sized board.settings
   all_sized = sized board.settings o.settings
 
-  pub one_of : (me : ℕ) → ltb me board.settings.n ≡ true → process_check board me words ≡ Fine
+  pub one_of : (me : ℕ) → ltb me board.settings.n ≡ true → process_check board me words ≡ Ok tt
   one_of me mine = accepted_fine board me words (record { sizes = stood; good = o.form.good; mine = ltb-true me board.settings.n mine })
 
-  pub none_of : (me : ℕ) → ltb me board.settings.n ≡ false → process_check board me words ≡ Refused NoSuchProcess
+  pub none_of : (me : ℕ) → ltb me board.settings.n ≡ false → process_check board me words ≡ Err NoSuchProcess
   unfolding process_check
   none_of me past =
       rw (stands_fine board.settings words stood, o.form.good, le-leb board.settings.n me (ltb-false me board.settings.n past))
@@ -40,7 +40,7 @@ module _ (board : Board) (words : List ℕ) (o : InOrder board words) where
   module _ (call : Call) (values : List ℕ) (me : ℕ) where
     pub begun : ltb me board.settings.n ≡ true
         → (begin_rule board me call values words, words) ≡ stepped board me (begins board.settings me call values (process_at board me), words)
-    begun mine = rw mine (ap (λ (a : Answered). (a, words)) (begin_served board me call values words (one_of me mine)))
+    begun mine = rw mine (ap (λ (a : Answered Board). (a, words)) (begin_served board me call values words (one_of me mine)))
 
     pub not_begun : ltb me board.settings.n ≡ false
         → (begin_rule board me call values words, words) ≡ stepped board 0 (begins board.settings me call values (process_at board 0), words)

@@ -3,17 +3,18 @@
 use mathlib.Core.List.{List}
 use Prim.Native.Nat.{ℕ}
 use Rattle.word.proofs.OneOutcome.{one_outcome, Settles}
-use Rattle.answers.specs.declared.Taken.{Taken}
+use Rattle.answers.specs.declared.Printed.{Printed}
+use Rattle.rules.specs.declared.Process.{Process}
 use Rattle.answers.proofs.answer.Kinds as answer_kinds
 use Rattle.answers.proofs.answer.Reads as answer
 use Rattle.answers.proofs.moves.slot.Kinds as slot_kinds
 use Rattle.answers.proofs.moves.slot.Reads as slot
 
-pub answer_settles : Settles answer_kinds.ps answer_kinds.r (Taken × List ℕ × List ℕ)
-    (λ κs r (_, (_, (_, (_, (_, (mem, (out, _))))))). (r, mem.now, out.now)) answer.Learnt
+pub answer_settles : Settles answer_kinds.ps answer_kinds.r (Printed Process × List ℕ × List ℕ)
+    (λ κs r (_, (_, (_, (_, (mem, (out, _)))))). (r, mem.now, out.now)) answer.Learnt
 answer_settles κs args r s e f one other =
     λ i. (
-      record { process = one_outcome one.process other.process i; len = one_outcome one.place other.place i },
+      record { after = one_outcome one.process other.process i; len = one_outcome one.place other.place i },
       one_outcome one.memory other.memory i,
       one_outcome one.bytes other.bytes i,
     )

@@ -1,31 +1,24 @@
 -- Document 01, "Schedule and printout": what each record prints, and the run after it; and the printout of a whole input.
-use Rattle.std.specs.Prelude.{ℕ, ◌+◌, cond, List, [], ◌∷◌, ◌++◌, ltb, replicate}
+use Rattle.std.specs.Prelude.{ℕ, ◌+◌, cond, List, [], ◌∷◌, ◌++◌, ltb, replicate, None, Result, Ok, Err}
+use Rattle.std.specs.Result.{result_ok}
 use Rattle.word.specs.declared.Refusal.{Refusal}
 use Rattle.word.specs.declared.Refusal.TheVariants.{TooManyRecords}
 use Rattle.rules.specs.Entry.{blank_board, set_up_rule}
-use Rattle.rules.specs.Processes.{no_values}
-use Rattle.rules.specs.Runs.{State, Event, begin, step, process_of, entry, after, event_row}
-use Rattle.rules.specs.declared.Answer.TheVariants.{Refused as RefusedAnswer}
+use Rattle.rules.specs.Runs.{State, Event, begin, step, process_of, after, event_row}
 use Rattle.rules.specs.declared.Board.{Board}
 use Rattle.rules.specs.declared.Call.{Call}
 use Rattle.rules.specs.declared.Call.TheVariants.{Load, Validate, Store}
-use Rattle.rules.specs.declared.OpenCount.{OpenCount}
-use Rattle.rules.specs.declared.OpenCount.TheVariants.{Open, Refused as CountRefused}
-use Rattle.rules.specs.declared.Start.{Start}
-use Rattle.rules.specs.declared.Start.TheVariants.{Ready, Refused as StartRefused}
+use Rattle.rules.specs.declared.Settings.{Settings}
 use Rattle.record.specs.Setup.{settings_of}
 use Rattle.record.specs.Entries.{schedule_of}
 use Rattle.record.specs.declared.Act.{Act}
 use Rattle.record.specs.declared.Act.TheVariants.{Load as LL, Validate as VL, Store as SC, Step as TakesStep}
 use Rattle.record.specs.declared.entries.Entry.{Entry}
-use Rattle.record.specs.declared.entries.Entry.TheVariants.{Begin, Step, Refused}
-use Rattle.record.specs.declared.setup.SettingsRead.{SettingsRead}
-use Rattle.record.specs.declared.setup.SettingsRead.TheVariants.{Read, Refused as SettingsRefused}
+use Rattle.record.specs.declared.entries.Entry.TheVariants.{Begin, Step}
 use Rattle.printout.specs.Row.{heading, row_of}
 use Rattle.printout.specs.declared.Row.{Row}
+use Rattle.printout.specs.declared.Who.{Who}
 use Rattle.printout.specs.declared.Who.TheVariants.{Nobody, SetUp, Process}
-use Rattle.printout.specs.declared.Open.{Open as OpenField}
-use Rattle.printout.specs.declared.Open.TheVariants.{Blank, Count}
 use Rattle.answers.specs.Records.{records_of}
 use Rattle.answers.specs.declared.Stage.{Stage}
 use Rattle.answers.specs.declared.Stage.TheVariants.{Waiting, Running, Over}
@@ -49,23 +42,26 @@ beginning_run = record { stage = Waiting; board = blank_board; words = replicate
 abbrev pub ended : Run → List ℕ → Run
 ended run words = record { stage = Over; board = run.board; words = words; count = run.count }
 
+-- a refusal that moved no process
+abbrev pub refused_row : ℕ → Who → Refusal → Row
+refused_row number who why = record { number = number; who = who; answer = Err why; «open» = None; w = 0 }
+
 -- a refused set-up prints `0,,setup,refused,,n,,,` with its number n and ends the run
 abbrev pub set_up_row : Refusal → Row
-set_up_row why = record { number = 0; who = SetUp; answer = RefusedAnswer why; «open» = Blank; w = 0; values = no_values }
+set_up_row why = refused_row 0 SetUp why
 
 abbrev pub set_up_refused : Run → List ℕ → Refusal → Told
 set_up_refused run words why = record { printed = row_of (set_up_row why); run = ended run words }
 
 -- an accepted set-up prints no row
-abbrev pub by_set_up : Run → Start → Board → List ℕ → Told
-by_set_up run Ready board words =
+abbrev pub by_set_up : Run → Result Board Refusal → List ℕ → Told
+by_set_up run (Ok board) words =
     record { printed = []; run = record { stage = Running; board = board; words = words; count = 0 } }
-by_set_up run (StartRefused why) board words = set_up_refused run words why
+by_set_up run (Err why) words = set_up_refused run words why
 
-abbrev pub by_settings : Run → SettingsRead → Told
-by_settings run (Read s) =
-    by_set_up run (set_up_rule s run.words).0.start (set_up_rule s run.words).0.board (set_up_rule s run.words).1
-by_settings run (SettingsRefused why) = set_up_refused run run.words why
+abbrev pub by_settings : Run → Result Settings Refusal → Told
+by_settings run (Ok s) = by_set_up run (set_up_rule s run.words).0 (set_up_rule s run.words).1
+by_settings run (Err why) = set_up_refused run run.words why
 
 unfoldable pub set_up_told : Run → List ℕ → Told
 set_up_told run bytes = by_settings run (settings_of bytes)
@@ -80,24 +76,18 @@ abbrev pub event_act : Event → Act
 event_act (begin me call values) = call_act call
 event_act (step me) = TakesStep
 
--- after 4 open is blank
-abbrev pub open_after : OpenCount → OpenField
-open_after (Open count) = Count count
-open_after (CountRefused why) = Blank
-
 abbrev pub state_of : Run → State
 state_of run = record { board = run.board; words = run.words }
 
--- a begin or a step: the process and the act, the answer, the open count after the record, and the values
+-- a begin or a step: the process and the act, the answer, and the open count after the record; after 4 it is blank
 unfoldable pub numbered_row : ℕ → Event → State → Row
 numbered_row number event state =
     record {
       number = number;
       who = Process (process_of event) (event_act event);
       answer = (event_row event state).answer;
-      «open» = open_after (event_row event state).open';
+      «open» = result_ok (event_row event state).open';
       w = state.board.settings.w;
-      values = (entry event state).0.values;
     }
 
 unfoldable pub event_told : Run → Event → Told
@@ -115,8 +105,7 @@ event_told run event =
 
 -- after 10, 11 and 12 process, act and open are blank
 abbrev pub nobodys_row : ℕ → Refusal → Row
-nobodys_row number why =
-    record { number = number; who = Nobody; answer = RefusedAnswer why; «open» = Blank; w = 0; values = no_values }
+nobodys_row number why = refused_row number Nobody why
 
 -- a record refused 10 or 11 has its number, and the run goes on
 abbrev pub refused_told : Run → Refusal → Told
@@ -126,10 +115,10 @@ refused_told run why =
       run = record { stage = Running; board = run.board; words = run.words; count = run.count + 1 };
     }
 
-abbrev pub by_entry : Run → Entry → List ℕ → Told
-by_entry run (Begin process call) values = event_told run (begin process call values)
-by_entry run (Step process) values = event_told run (step process)
-by_entry run (Refused why) values = refused_told run why
+abbrev pub by_entry : Run → Result Entry Refusal → Told
+by_entry run (Ok (Begin process call values)) = event_told run (begin process call values)
+by_entry run (Ok (Step process)) = event_told run (step process)
+by_entry run (Err why) = refused_told run why
 
 -- 12: a schedule record after the 1,000,000th ends the run
 abbrev pub most_records : ℕ
@@ -141,7 +130,7 @@ too_many_told run = record { printed = row_of (nobodys_row (most_records + 1) To
 unfoldable pub schedule_told : Run → List ℕ → Told
 schedule_told run bytes =
     cond (ltb run.count most_records)
-    (by_entry run (schedule_of bytes run.board.settings.w).entry (schedule_of bytes run.board.settings.w).values)
+    (by_entry run (schedule_of bytes run.board.settings.w))
     (too_many_told run)
 
 abbrev pub told_in : Stage → Run → List ℕ → Told

@@ -18,7 +18,8 @@ use printout::put_row;
 use record::Entry;
 use rows::row_by;
 pub use rows::{nobodys_row, set_up_row};
-use rules::{Process, Settings, Values};
+use rules::{Process, Settings};
+use word::Refusal;
 
 // A run waits for its set-up, runs, or is over.
 #[derive(Clone, Copy)]
@@ -28,32 +29,30 @@ pub enum Stage {
     Over,
 }
 
-// A process after a record, and the output's next place after the row.
+// A process or a run after a record, and how many bytes the output then holds.
 #[derive(Clone, Copy)]
-pub struct Taken {
-    pub process: Process,
+pub struct Printed<S> {
+    pub after: S,
     pub len: usize,
 }
 
+#[tactic(auto, using(rules::proofs::GoodForm::Held::in_form_lem))]
 pub fn answer(
     number: u64,
     s: Settings,
-    entry: Entry,
-    values: Values,
+    entry: Result<Entry, Refusal>,
     p: Process,
     mem: &mut [u64],
     out: &mut [u8],
     len: usize,
-) -> Taken
+) -> Printed<Process>
     requires { Sized s × (words_used s ≤ length mem.old) × Sound s p × Clean s mem.old × (longest_row ≤ length out.old - len) }
-    ensures { Answers number s entry values p mem.old out.old len result.process mem.new out.new result.len }
+    ensures { Answers number s entry p mem.old out.old len result.after mem.new out.new result.len }
 {
-    let moved = moves(s, entry, values, p, mem);
-    let row = row_by(number, s, entry, moved);
-    let next = put_row(row, out, len);
-    let process = moved.process;
-    Taken {
-        process: process,
+    let moved = moves(s, entry, p, mem);
+    let next = put_row(row_by(number, s, entry, moved), out, len);
+    Printed {
+        after: moved.after,
         len: next,
     }
 }

@@ -2,39 +2,38 @@
 ghost use Rattle.std.specs.Prelude.{◌≡◌, true};
 ghost use Rattle.rules.specs.GoodForm.{open_fits};
 ghost use Rattle.answers.specs.Moves.{open_in, process_row, row_by};
-ghost use Rattle.answers.specs.Run.{set_up_row, call_act, nobodys_row};
+ghost use Rattle.answers.specs.Run.{refused_row, set_up_row, call_act, nobodys_row};
 
 use calls::sequences_open;
-use printout::{Open, Row, Who};
+use printout::{Row, Who};
 use record::{Act, Entry};
-use rules::{Answer, Call, Moved, Process, Settings};
+use rules::{Answered, Call, Process, Settings};
 use word::Refusal;
+
+// A refusal that moved no process.
+fn refused_row(number: u64, who: Who, why: Refusal) -> Row
+    ensures { result ≡ refused_row number who why }
+{
+    Row {
+        number,
+        who,
+        answer: Err(why),
+        open: None,
+        w: 0,
+    }
+}
 
 pub fn set_up_row(why: Refusal) -> Row
     ensures { result ≡ set_up_row why }
 {
-    Row {
-        number: 0,
-        who: Who::SetUp,
-        answer: Answer::Refused(why),
-        open: Open::Blank,
-        w: 0,
-        values: [0, 0, 0, 0],
-    }
+    refused_row(0, Who::SetUp, why)
 }
 
 // After 10, 11 and 12.
 pub fn nobodys_row(number: u64, why: Refusal) -> Row
     ensures { result ≡ nobodys_row number why }
 {
-    Row {
-        number: number,
-        who: Who::Nobody,
-        answer: Answer::Refused(why),
-        open: Open::Blank,
-        w: 0,
-        values: [0, 0, 0, 0],
-    }
+    refused_row(number, Who::Nobody, why)
 }
 
 fn call_act(call: Call) -> Act
@@ -47,41 +46,43 @@ fn call_act(call: Call) -> Act
     }
 }
 
-fn open_in(s: Settings, me: usize, p: Process) -> Open
+fn open_in(s: Settings, me: usize, p: Process) -> Option<u64>
     requires { open_fits s p.opened ≡ true }
     ensures { result ≡ open_in s me p }
 {
     if me < s.n {
-        return Open::Count(sequences_open(s, p.opened) as u64);
+        return Some(u64::from(sequences_open(s, p.opened)));
     }
-    Open::Blank
+    None
 }
 
-fn process_row(number: u64, s: Settings, me: usize, act: Act, m: Moved) -> Row
-    requires { open_fits s m.process.opened ≡ true }
-    ensures { result ≡ process_row number s me act m }
+fn process_row(number: u64, s: Settings, me: usize, act: Act, moved: Answered<Process>) -> Row
+    requires { open_fits s moved.after.opened ≡ true }
+    ensures { result ≡ process_row number s me act moved }
 {
-    let p = m.process;
-    let answer = m.answer;
-    let values = m.values;
-    let open = open_in(s, me, p);
     Row {
-        number: number,
+        number,
         who: Who::Process(me as u64, act),
-        answer: answer,
-        open: open,
+        answer: moved.answer,
+        open: open_in(s, me, moved.after),
         w: s.w,
-        values: values,
     }
 }
 
-pub(crate) fn row_by(number: u64, s: Settings, entry: Entry, m: Moved) -> Row
-    requires { open_fits s m.process.opened ≡ true }
-    ensures { result ≡ row_by number s entry m }
+pub(crate) fn row_by(
+    number: u64,
+    s: Settings,
+    entry: Result<Entry, Refusal>,
+    moved: Answered<Process>,
+) -> Row
+    requires { open_fits s moved.after.opened ≡ true }
+    ensures { result ≡ row_by number s entry moved }
 {
     match entry {
-        Entry::Begin { process, call } => process_row(number, s, process, call_act(call), m),
-        Entry::Step(process) => process_row(number, s, process, Act::Step, m),
-        Entry::Refused(why) => nobodys_row(number, why),
+        Ok(Entry::Begin { process, call, .. }) => {
+            process_row(number, s, process, call_act(call), moved)
+        }
+        Ok(Entry::Step(process)) => process_row(number, s, process, Act::Step, moved),
+        Err(why) => nobodys_row(number, why),
     }
 }
