@@ -10,11 +10,10 @@ use lib.Dec.{eqb}
 use lib.ListN.{length}
 use Rattle.rules.specs.Entry.{set_up_rule}
 use Rattle.rules.specs.declared.Board.{Board}
-use Rattle.rules.specs.declared.Start.{Start}
-use Rattle.rules.specs.declared.Start.TheVariants.{Ready, Refused as StartRefused}
+use Rattle.std.specs.Prelude.{Result, Ok, Err}
+use Rattle.word.specs.declared.Refusal.{Refusal}
+use Rattle.rules.specs.declared.Settings.{Settings}
 use Rattle.record.specs.Setup.{settings_of}
-use Rattle.record.specs.declared.setup.SettingsRead.{SettingsRead}
-use Rattle.record.specs.declared.setup.SettingsRead.TheVariants.{Read, Refused as SettingsRefused}
 use Rattle.printout.specs.Writing.{longest_row}
 use Rattle.schedule.specs.Telling.{Tells}
 use Rattle.schedule.specs.Feeding.{Feeding, run_of, feeding, telling, is_full, stage_number, same_stage, feed_of}
@@ -79,14 +78,14 @@ unfolding same_stage
 stage_is a b s t p q =
     ap (λ (x : Stage). eqb (stage_number x) (stage_number b.stage)) p ∙ ap (λ (x : Stage). eqb (stage_number s) (stage_number x)) q
 
-left_waiting : (run : Run) (start : Start) (board : Board) (words : List ℕ) (a : Run) → a.stage ≡ Waiting
-    → same_stage a (by_set_up run start board words).run ≡ false
-left_waiting run Ready board words a e = stage_is a (by_set_up run Ready board words).run Waiting Running e refl
-left_waiting run (StartRefused why) board words a e = stage_is a (by_set_up run (StartRefused why) board words).run Waiting Over e refl
+left_waiting : (run : Run) (start : Result Board Refusal) (words : List ℕ) (a : Run) → a.stage ≡ Waiting
+    → same_stage a (by_set_up run start words).run ≡ false
+left_waiting run (Ok board) words a e = stage_is a (by_set_up run (Ok board) words).run Waiting Running e refl
+left_waiting run (Err why) words a e = stage_is a (by_set_up run (Err why) words).run Waiting Over e refl
 
-settings_leave : (run : Run) (read : SettingsRead) (a : Run) → a.stage ≡ Waiting → same_stage a (by_settings run read).run ≡ false
-settings_leave run (Read s) a e = left_waiting run (set_up_rule s run.words).0.start _ _ a e
-settings_leave run (SettingsRefused why) a e = stage_is a (by_settings run (SettingsRefused why)).run Waiting Over e refl
+settings_leave : (run : Run) (read : Result Settings Refusal) (a : Run) → a.stage ≡ Waiting → same_stage a (by_settings run read).run ≡ false
+settings_leave run (Ok s) a e = left_waiting run (set_up_rule s run.words).0 _ a e
+settings_leave run (Err why) a e = stage_is a (by_settings run (Err why)).run Waiting Over e refl
 
 -- a set-up record ends the waiting
 pub set_up_leaves : (session after : Session) (words words_after bytes out out_after : List ℕ) (len next : ℕ) → session.stage ≡ Waiting

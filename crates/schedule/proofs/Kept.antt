@@ -10,10 +10,11 @@ use lib.Dec.{eqb, leb, ltb}
 use lib.ListN.{length, get_or, take, length-append, length-set, get_or-append}
 use lib.Seq.{take-append-le, take_all, take-suc-set, get_or-append_seam, length-take-le}
 use Rattle.fields.specs.Form.{closed, in_form}
-use Rattle.record.specs.Entries.{refused_read, schedule_of}
+use Rattle.std.specs.Prelude.{Result, Err}
+use Rattle.record.specs.Entries.{schedule_of}
 use Rattle.record.specs.Setup.{settings_of}
-use Rattle.record.specs.declared.entries.ScheduleRead.{ScheduleRead}
-use Rattle.record.specs.declared.setup.SettingsRead.TheVariants.{Refused}
+use Rattle.record.specs.declared.entries.Entry.{Entry}
+use Rattle.word.specs.declared.Refusal.{Refusal}
 use Rattle.word.specs.declared.Refusal.TheVariants.{RecordNotInForm}
 use Rattle.schedule.specs.Gathering.{Held, line_length, bytes_of, nothing_held, put, closes}
 use Rattle.answers.specs.Run.{Run, by_settings, set_up_told, by_entry, most_records, too_many_told, schedule_told, told_in, record_told}
@@ -118,11 +119,11 @@ too_long : (bytes : List ℕ) → 512 < length bytes → in_form bytes ≡ false
 unfolding in_form
 too_long bytes l = rw (lt-leb (length bytes) 512 l)
 
-settings_long : (bytes : List ℕ) → 512 < length bytes → settings_of bytes ≡ Refused RecordNotInForm
+settings_long : (bytes : List ℕ) → 512 < length bytes → settings_of bytes ≡ Err RecordNotInForm
 unfolding settings_of
 settings_long bytes l = rw (too_long bytes l)
 
-schedule_long : (bytes : List ℕ) (w : ℕ) → 512 < length bytes → schedule_of bytes w ≡ refused_read RecordNotInForm
+schedule_long : (bytes : List ℕ) (w : ℕ) → 512 < length bytes → schedule_of bytes w ≡ Err RecordNotInForm
 unfolding schedule_of
 schedule_long bytes w l = rw (too_long bytes l)
 
@@ -131,7 +132,7 @@ module _ (a b : List ℕ) (la : 512 < length a) (lb : 512 < length b) where
   unfolding set_up_told schedule_told
   long_same Waiting run = ap (by_settings run) (settings_long a la ∙ sym (settings_long b lb))
   long_same Running run =
-      ap (λ (r : ScheduleRead). cond (ltb run.count most_records) (by_entry run r.entry r.values) (too_many_told run))
+      ap (λ (r : Result Entry Refusal). cond (ltb run.count most_records) (by_entry run r) (too_many_told run))
       (schedule_long a _ la ∙ sym (schedule_long b _ lb))
   long_same Over run = refl
 

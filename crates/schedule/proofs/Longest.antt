@@ -11,15 +11,13 @@ use Rattle.word.specs.declared.Refusal.TheVariants.{TooManyRecords}
 use Rattle.rules.specs.Entry.{set_up_rule}
 use Rattle.rules.specs.Runs.{begin, step}
 use Rattle.rules.specs.declared.Board.{Board}
-use Rattle.rules.specs.declared.Start.{Start}
-use Rattle.rules.specs.declared.Start.TheVariants.{Ready, Refused as StartRefused}
+use Rattle.std.specs.Prelude.{Result, Ok, Err}
+use Rattle.word.specs.declared.Refusal.{Refusal}
+use Rattle.rules.specs.declared.Settings.{Settings}
 use Rattle.record.specs.Entries.{schedule_of}
 use Rattle.record.specs.Setup.{settings_of}
 use Rattle.record.specs.declared.entries.Entry.{Entry}
-use Rattle.record.specs.declared.entries.Entry.TheVariants.{Begin, Step, Refused}
-use Rattle.record.specs.declared.entries.ScheduleRead.{ScheduleRead}
-use Rattle.record.specs.declared.setup.SettingsRead.{SettingsRead}
-use Rattle.record.specs.declared.setup.SettingsRead.TheVariants.{Read, Refused as SettingsRefused}
+use Rattle.record.specs.declared.entries.Entry.TheVariants.{Begin, Step}
 use Rattle.answers.specs.Run.{Run, Told, set_up_row, by_set_up, by_settings, set_up_told, state_of, numbered_row, event_told, nobodys_row, by_entry, most_records, too_many_told, schedule_told, told_in, record_told}
 use Rattle.answers.specs.declared.Stage.{Stage}
 use Rattle.answers.specs.declared.Stage.TheVariants.{Waiting, Running, Over}
@@ -33,31 +31,31 @@ use Rattle.schedule.specs.Longest.{rows_to_come, bytes_to_come, may_hold}
 abbrev Pays : ℕ → Told → Type 0
 Pays most told = length told.printed + bytes_to_come told.run ≤ most
 
-start_pays : (run : Run) (start : Start) (board : Board) (words : List ℕ) → Pays (longest_row * rows_to_come Waiting 0) (by_set_up run start board words)
-start_pays run Ready board words = omega arith
-start_pays run (StartRefused why) board words = omega (arith, row_at_most (set_up_row why))
+start_pays : (run : Run) (start : Result Board Refusal) (words : List ℕ) → Pays (longest_row * rows_to_come Waiting 0) (by_set_up run start words)
+start_pays run (Ok board) words = omega arith
+start_pays run (Err why) words = omega (arith, row_at_most (set_up_row why))
 
-settings_pay : (run : Run) (read : SettingsRead) → Pays (longest_row * rows_to_come Waiting 0) (by_settings run read)
-settings_pay run (Read s) = start_pays run (set_up_rule s run.words).0.start _ _
-settings_pay run (SettingsRefused why) = omega (arith, row_at_most (set_up_row why))
+settings_pay : (run : Run) (read : Result Settings Refusal) → Pays (longest_row * rows_to_come Waiting 0) (by_settings run read)
+settings_pay run (Ok s) = start_pays run (set_up_rule s run.words).0 _
+settings_pay run (Err why) = omega (arith, row_at_most (set_up_row why))
 
-entry_pays : (run : Run) (entry : Entry) (values : List ℕ) → run.count < most_records
-    → Pays (longest_row * rows_to_come Running run.count) (by_entry run entry values)
+entry_pays : (run : Run) (entry : Result Entry Refusal) → run.count < most_records
+    → Pays (longest_row * rows_to_come Running run.count) (by_entry run entry)
 unfolding event_told
-entry_pays run (Begin process call) values few = omega (arith, row_at_most (numbered_row (run.count + 1) (begin process call values) (state_of run)))
-entry_pays run (Step process) values few = omega (arith, row_at_most (numbered_row (run.count + 1) (step process) (state_of run)))
-entry_pays run (Refused why) values few = omega (arith, row_at_most (nobodys_row (run.count + 1) why))
+entry_pays run (Ok (Begin process call values)) few = omega (arith, row_at_most (numbered_row (run.count + 1) (begin process call values) (state_of run)))
+entry_pays run (Ok (Step process)) few = omega (arith, row_at_most (numbered_row (run.count + 1) (step process) (state_of run)))
+entry_pays run (Err why) few = omega (arith, row_at_most (nobodys_row (run.count + 1) why))
 
 schedule_pays : (run : Run) (bytes : List ℕ) → Pays (longest_row * rows_to_come Running run.count) (schedule_told run bytes)
 unfolding schedule_told
 schedule_pays run bytes = go (ltb run.count most_records) refl
   where
-    read : ScheduleRead
+    read : Result Entry Refusal
     read = schedule_of bytes run.board.settings.w
 
     go : (few : Bool) → ltb run.count most_records ≡ few
-        → Pays (longest_row * rows_to_come Running run.count) (cond few (by_entry run read.entry read.values) (too_many_told run))
-    go true e = entry_pays run read.entry read.values (ltb-true _ _ e)
+        → Pays (longest_row * rows_to_come Running run.count) (cond few (by_entry run read) (too_many_told run))
+    go true e = entry_pays run read (ltb-true _ _ e)
     go false e = omega (arith, row_at_most (nobodys_row (most_records + 1) TooManyRecords))
 
 told_pays : (s : Stage) (run : Run) (bytes : List ℕ) → run.stage ≡ s → Pays (longest_row * rows_to_come s run.count) (told_in s run bytes)

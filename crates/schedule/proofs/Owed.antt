@@ -12,15 +12,14 @@ use lib.Seq.{sets, sets-eq, take_at, length-take-le}
 use Rattle.word.specs.declared.Refusal.TheVariants.{TooManyRecords}
 use Rattle.rules.specs.Entry.{set_up_rule}
 use Rattle.rules.specs.declared.Board.{Board}
-use Rattle.rules.specs.declared.Start.{Start}
-use Rattle.rules.specs.declared.Start.TheVariants.{Ready, Refused as StartRefused}
+use Rattle.std.specs.Prelude.{Result, Ok, Err}
+use Rattle.word.specs.declared.Refusal.{Refusal}
+use Rattle.rules.specs.declared.Settings.{Settings}
 use Rattle.fields.specs.Form.{closed}
 use Rattle.record.specs.Entries.{schedule_of}
 use Rattle.record.specs.Setup.{settings_of}
 use Rattle.record.specs.declared.entries.Entry.{Entry}
-use Rattle.record.specs.declared.entries.Entry.TheVariants.{Begin, Step, Refused}
-use Rattle.record.specs.declared.setup.SettingsRead.{SettingsRead}
-use Rattle.record.specs.declared.setup.SettingsRead.TheVariants.{Read, Refused as SettingsRefused}
+use Rattle.record.specs.declared.entries.Entry.TheVariants.{Begin, Step}
 use Rattle.printout.proofs.Longest.{row_at_most}
 use Rattle.printout.specs.Writing.{longest_row}
 use Rattle.schedule.specs.Feeding.{Feeding, holding, telling, record_answered, byte_gathered, take_in, take_byte, is_full}
@@ -36,29 +35,29 @@ use Rattle.schedule.proofs.Kept.{Keeps, keeps_nothing, closes_kept, put_kept, to
 abbrev Short : Told → Type 0
 Short told = length told.printed ≤ longest_row
 
-short_start : (run : Run) (start : Start) (board : Board) (words : List ℕ) → Short (by_set_up run start board words)
-short_start run Ready board words = omega arith
-short_start run (StartRefused why) board words = row_at_most _
+short_start : (run : Run) (start : Result Board Refusal) (words : List ℕ) → Short (by_set_up run start words)
+short_start run (Ok board) words = omega arith
+short_start run (Err why) words = row_at_most _
 
-short_settings : (run : Run) (read : SettingsRead) → Short (by_settings run read)
-short_settings run (Read s) = short_start run (set_up_rule s run.words).0.start _ _
-short_settings run (SettingsRefused why) = row_at_most _
+short_settings : (run : Run) (read : Result Settings Refusal) → Short (by_settings run read)
+short_settings run (Ok s) = short_start run (set_up_rule s run.words).0 _
+short_settings run (Err why) = row_at_most _
 
-short_entry : (run : Run) (entry : Entry) (values : List ℕ) → Short (by_entry run entry values)
+short_entry : (run : Run) (entry : Result Entry Refusal) → Short (by_entry run entry)
 unfolding event_told
-short_entry run (Begin process call) values = row_at_most _
-short_entry run (Step process) values = row_at_most _
-short_entry run (Refused why) values = row_at_most _
+short_entry run (Ok (Begin process call values)) = row_at_most _
+short_entry run (Ok (Step process)) = row_at_most _
+short_entry run (Err why) = row_at_most _
 
 short_schedule : (run : Run) (bytes : List ℕ) → Short (schedule_told run bytes)
 unfolding schedule_told
 short_schedule run bytes = go (ltb run.count most_records)
   where
     said : Told
-    said = by_entry run (schedule_of bytes run.board.settings.w).entry (schedule_of bytes run.board.settings.w).values
+    said = by_entry run (schedule_of bytes run.board.settings.w)
 
     go : (t : Bool) → Short (cond t said (too_many_told run))
-    go true = short_entry run (schedule_of bytes run.board.settings.w).entry (schedule_of bytes run.board.settings.w).values
+    go true = short_entry run (schedule_of bytes run.board.settings.w)
     go false = row_at_most (nobodys_row (most_records + 1) TooManyRecords)
 
 short_told : (s : Stage) (run : Run) (bytes : List ℕ) → Short (told_in s run bytes)

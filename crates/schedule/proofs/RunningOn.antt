@@ -15,7 +15,9 @@ use Rattle.rules.specs.declared.Settings.{Settings}
 use Rattle.rules.proofs.GoodForm.Keeps.{sound_process, clean_words}
 use Rattle.rules.specs.InForm.{Sound, Clean}
 use Rattle.record.specs.Entries.{schedule_of}
-use Rattle.record.specs.declared.entries.ScheduleRead.{ScheduleRead}
+use Rattle.record.specs.declared.entries.Entry.{Entry}
+use Rattle.std.specs.Prelude.{Result}
+use Rattle.word.specs.declared.Refusal.{Refusal}
 use Rattle.printout.specs.Writing.{longest_row}
 use Rattle.answers.specs.Answering.{Answers}
 use Rattle.schedule.specs.Telling.{Tells, over_of, EndsWithRow}
@@ -88,18 +90,18 @@ module _ (board : Board) (count held : ℕ) (cr : Bool) (line words out : List �
       (stage_is (run_of (running board count held cr) words) (run_of after words) Running Over refl (ap (λ (s : Session). s.stage) k.over))
 
   -- a record answered
-  module _ (o : InOrder board words) (s : Settings) (same : board.settings ≡ s) (read : ScheduleRead) (me : ℕ) (q : Process)
+  module _ (o : InOrder board words) (s : Settings) (same : board.settings ≡ s) (read : Result Entry Refusal) (me : ℕ) (q : Process)
       (words_after out_after : List ℕ) (next : ℕ) (e : closed ≡ true) (few : count < most_records)
-      (r : read ≡ schedule_of (bytes_of h) s.w) (at : me ≡ slot_of read.entry s.n)
-      (k : Answers (count + 1) s read.entry read.values (process_at board me) words out len q words_after out_after next) where
+      (r : read ≡ schedule_of (bytes_of h) s.w) (at : me ≡ slot_of read s.n)
+      (k : Answers (count + 1) s read (process_at board me) words out len q words_after out_after next) where
     told : Tells (record_told (run_of (running board count held cr) words) (bytes_of h)) out len (running (put_process board me q) (count + 1) 0 false) words_after out_after next
     told =
         in_stage (running board count held cr) words out len Running (bytes_of h) (running (put_process board me q) (count + 1) 0 false) words_after out_after next refl
         (within_records (running board count held cr) words out len (bytes_of h) read (running (put_process board me q) (count + 1) 0 false) words_after out_after next few
         (r ∙ ap (λ (z : Settings). schedule_of (bytes_of h) z.w) (sym same))
-        (read_tells (running board count held cr) words o read.entry read.values out len me q words_after out_after next
-        (at ∙ ap (λ (z : Settings). slot_of read.entry z.n) (sym same))
-        (subst (λ (z : Settings). Answers (count + 1) z read.entry read.values (process_at board me) words out len q words_after out_after next) (sym same) k)))
+        (read_tells (running board count held cr) words o read out len me q words_after out_after next
+        (at ∙ ap (λ (z : Settings). slot_of read z.n) (sym same))
+        (subst (λ (z : Settings). Answers (count + 1) z read (process_at board me) words out len q words_after out_after next) (sym same) k)))
 
     order : InOrder (put_process board me q) words_after
     order =

@@ -8,7 +8,7 @@ use lib.ListN.{length, drop, length-drop}
 use Rattle.word.proofs.OneOutcome.{one_outcome, Settles}
 use Rattle.schedule.specs.Feeding.{Feeding}
 use Rattle.schedule.specs.declared.Session.{Session}
-use Rattle.schedule.specs.declared.Next.{Next}
+use Rattle.answers.specs.declared.Printed.{Printed}
 use Rattle.schedule.specs.declared.Fed.{Fed}
 use Rattle.schedule.proofs.start.Kinds as start_kinds
 use Rattle.schedule.proofs.start.Reads as start
@@ -17,10 +17,10 @@ use Rattle.schedule.proofs.feed.Reads as feed
 use Rattle.schedule.proofs.finish.Kinds as finish_kinds
 use Rattle.schedule.proofs.finish.Reads as finish
 
-pub start_settles : Settles start_kinds.ps start_kinds.r (Next × List ℕ) (λ κs r (out, _). (r, out.now)) start.Learnt
+pub start_settles : Settles start_kinds.ps start_kinds.r (Printed Session × List ℕ) (λ κs r (out, _). (r, out.now)) start.Learnt
 start_settles κs args r s e f one other =
     let written = one_outcome one.1 other.1 in
-    λ i. (record { session = one_outcome one.0 other.0 i; len = (written i).1 }, (written i).0)
+    λ i. (record { after = one_outcome one.0 other.0 i; len = (written i).1 }, (written i).0)
 
 -- nothing of a session is lost where it is fed
 abbrev session_in : Feeding → Session
@@ -44,8 +44,8 @@ feed_settles κs args r s e f one other =
       (fed i).0.out,
     )
 
-pub finish_settles : Settles finish_kinds.ps finish_kinds.r (Next × List ℕ × List ℕ)
+pub finish_settles : Settles finish_kinds.ps finish_kinds.r (Printed Session × List ℕ × List ℕ)
     (λ κs r (_, (_, (mem, (out, _)))). (r, mem.now, out.now)) finish.Learnt
 finish_settles κs args r s e f one other =
     let fed = one_outcome one other in
-    λ i. (record { session = session_in (fed i); len = (fed i).len }, (fed i).run.words, (fed i).out)
+    λ i. (record { after = session_in (fed i); len = (fed i).len }, (fed i).run.words, (fed i).out)

@@ -1,25 +1,21 @@
 -- What answering leaves, put together; and a run in order stays so after each record. Assumes nothing.
-use Prim.Native.Nat.{ℕ, ◌+◌, ◌-◌, ◌≤◌, ◌<◌}
+use Prim.Native.Nat.{ℕ, ◌+◌, ◌≤◌, ◌<◌}
 use mathlib.Core.Path.{◌≡◌, refl, sym, ap, ◌∙◌, subst}
 use mathlib.Core.Bool.{Bool, true, false, cond}
-use mathlib.Core.List.{List, []}
+use mathlib.Core.List.{List}
 use borrow.Author.Tests.{lt-ltb, le-ltb}
 use native.Mathlib.Omega.{arith}
 use lib.Dec.{ltb}
 use lib.ListN.{length}
 use lib.Seq.{sets}
-use Rattle.rules.specs.Entry.{fresh_words, set_up_rule}
+use Rattle.rules.specs.Entry.{fresh_words}
 use Rattle.rules.specs.Sizes.{words_used}
-use Rattle.rules.specs.Refusals.{sizes_check}
+use Rattle.std.specs.Prelude.{Result, Ok, Err}
+use Rattle.rules.specs.Refusals.{Check, sizes_check}
 use Rattle.rules.specs.declared.Board.{Board}
-use Rattle.rules.specs.declared.Check.{Check}
-use Rattle.rules.specs.declared.Check.TheVariants.{Fine, Refused as CheckRefused}
-use Rattle.rules.specs.declared.SetUp.{SetUp}
 use Rattle.rules.specs.declared.Settings.{Settings}
-use Rattle.rules.specs.declared.Start.{Start}
-use Rattle.rules.specs.declared.Start.TheVariants.{Ready as Accepted, Refused as StartRefused}
 use Rattle.rules.specs.Processes.{process_at, put_process}
-use Rattle.rules.specs.declared.Moved.{Moved}
+use Rattle.rules.specs.Figure4.{Step}
 use Rattle.rules.specs.declared.Process.{Process}
 use Rattle.rules.proofs.Refusals.Checked.{stands}
 use Rattle.rules.proofs.GoodForm.Fresh.{set_up_accepted, fresh_in_form, fresh_length}
@@ -28,37 +24,21 @@ use Rattle.rules.proofs.Sizes.Sized.{sized}
 use Rattle.record.specs.Entries.{schedule_of}
 use Rattle.record.specs.Setup.{settings_of}
 use Rattle.record.specs.declared.entries.Entry.{Entry}
-use Rattle.record.specs.declared.entries.ScheduleRead.{ScheduleRead}
-use Rattle.record.specs.declared.setup.SettingsRead.{SettingsRead}
-use Rattle.record.specs.declared.setup.SettingsRead.TheVariants.{Read, Refused as SettingsRefused}
 use Rattle.printout.specs.Row.{row_of}
-use Rattle.printout.specs.Writing.{Written, longest_row, put_row}
 use Rattle.printout.specs.declared.Row.{Row}
 use Rattle.word.specs.declared.Refusal.{Refusal}
 use Rattle.word.specs.declared.Refusal.TheVariants.{TooManyRecords}
 use Rattle.answers.specs.Answering.{Answers}
-use Rattle.schedule.specs.Telling.{Tells, over_of, EndsWithRow}
+use Rattle.schedule.specs.Telling.{Tells, EndsWithRow}
 use Rattle.schedule.specs.Feeding.{run_of, session_of, feeding, telling}
 use Rattle.answers.specs.Moves.{slot_of, move_of, row_by}
 use Rattle.answers.specs.Order.{InOrder}
 use Rattle.schedule.specs.Ready.{OrderIn}
-use Rattle.answers.specs.Run.{Run, Told, ended, set_up_row, by_set_up, by_settings, set_up_told, nobodys_row, by_entry, most_records, too_many_told, schedule_told, told_in, record_told}
+use Rattle.answers.specs.Run.{Run, Told, ended, by_set_up, by_settings, set_up_told, nobodys_row, by_entry, most_records, too_many_told, schedule_told, told_in, record_told}
 use Rattle.schedule.specs.declared.Session.{Session}
 use Rattle.answers.specs.declared.Stage.{Stage}
 use Rattle.answers.specs.declared.Stage.TheVariants.{Waiting, Running, Over}
-use Rattle.answers.proofs.Answering.{row_put}
 use Rattle.answers.proofs.EntryTold.{entry_told, entry_order}
-
--- a last row
-pub ends : (row : Row) (session : Session) (out : List ℕ) (len : ℕ) (out_after : List ℕ) (next : ℕ) → longest_row ≤ length out - len
-    → ◌≡◌ {A = Written} (out_after, next) (put_row row out len) → EndsWithRow row session out len (over_of session) out_after next
-ends row session out len out_after next room put =
-    let whole = put ∙ row_put row out len room in
-    record { over = refl; bytes = ap (λ (w : Written). w.0) whole; place = ap (λ (w : Written). w.1) whole }
-
-pub ends_at : (session : Session) (out : List ℕ) (len : ℕ) (row right : Row) (after : Session) (out_after : List ℕ) (next : ℕ)
-    → row ≡ right → EndsWithRow row session out len after out_after next → EndsWithRow right session out len after out_after next
-ends_at session out len row right after out_after next e k = subst (λ (r : Row). EndsWithRow r session out len after out_after next) e k
 
 -- a run that ends with a row
 pub ends_tell : (row right : Row) (session after : Session) (words words_after out out_after : List ℕ) (len next : ℕ)
@@ -71,10 +51,6 @@ ends_tell row right session after words words_after out out_after len next e k =
       bytes = k.bytes ∙ ap (λ (r : Row). sets out len (row_of r)) e;
       place = k.place ∙ ap (λ (r : Row). len + length (row_of r)) e;
     }
-
--- nothing printed
-pub silent : (run : Run) (out : List ℕ) (len : ℕ) → Tells (record { printed = []; run = run }) out len (session_of run) run.words out len
-silent run out len = record { session = refl; memory = refl; bytes = refl; place = omega arith }
 
 -- a telling is what a session becomes
 pub tells_feeding : (told : Told) (session after : Session) (line words words_after out out_after : List ℕ) (len next : ℕ)
@@ -94,36 +70,36 @@ Orderly run = OrderIn run.stage run.board run.words
 pub over_order : (board : Board) (words : List ℕ) → OrderIn Over board words
 over_order board words e = let z : ◌≡◌ {A = ℕ} 0 1 = cc in absurd (omega arith)
 
-set_up_order : (run : Run) (s : Settings) → Orderly (by_settings run (Read s)).run
+set_up_order : (run : Run) (s : Settings) → Orderly (by_settings run (Ok s)).run
 set_up_order run s = go (sizes_check s (length run.words)) refl
   where
-    go : (c : Check) → sizes_check s (length run.words) ≡ c → Orderly (by_settings run (Read s)).run
-    go Fine e =
+    go : (c : Check) → sizes_check s (length run.words) ≡ c → Orderly (by_settings run (Ok s)).run
+    go (Ok done) e =
         let k = stands s run.words e in
         let room : words_used s ≤ length (fresh_words s run.words) = omega (arith, fresh_length s run.words k.room, k.room) in
-        subst (λ (r : SetUp × List ℕ). Orderly (by_set_up run r.0.start r.0.board r.1).run) (sym (set_up_accepted s run.words e))
+        subst (λ (r : Result Board Refusal × List ℕ). Orderly (by_set_up run r.0 r.1).run) (sym (set_up_accepted s run.words e))
         (λ q. record { settings = k.settings; room = room; form = fresh_in_form s run.words (sized s k.settings) })
-    go (CheckRefused why) e =
-        subst (λ (r : SetUp × List ℕ). Orderly (by_set_up run r.0.start r.0.board r.1).run) (sym (set_up_refused_lem s run.words why e))
+    go (Err why) e =
+        subst (λ (r : Result Board Refusal × List ℕ). Orderly (by_set_up run r.0 r.1).run) (sym (set_up_refused_lem s run.words why e))
         (over_order run.board run.words)
 
-settings_order : (run : Run) (read : SettingsRead) → Orderly (by_settings run read).run
-settings_order run (Read s) = set_up_order run s
-settings_order run (SettingsRefused why) = over_order run.board run.words
+settings_order : (run : Run) (read : Result Settings Refusal) → Orderly (by_settings run read).run
+settings_order run (Ok s) = set_up_order run s
+settings_order run (Err why) = over_order run.board run.words
 
 schedule_order : (run : Run) (bytes : List ℕ) → InOrder run.board run.words → Orderly (schedule_told run bytes).run
 unfolding schedule_told
 schedule_order run bytes o = go (ltb run.count most_records)
   where
-    read : ScheduleRead
+    read : Result Entry Refusal
     read = schedule_of bytes run.board.settings.w
 
-    entered : Orderly (by_entry run read.entry read.values).run
+    entered : Orderly (by_entry run read).run
     entered =
-        subst (λ (t : Told). Orderly t.run) (sym (entry_told run o read.entry read.values))
-        (λ q. entry_order run o read.entry read.values)
+        subst (λ (t : Told). Orderly t.run) (sym (entry_told run o read))
+        (λ q. entry_order run o read)
 
-    go : (t : Bool) → Orderly (cond t (by_entry run read.entry read.values) (too_many_told run)).run
+    go : (t : Bool) → Orderly (cond t (by_entry run read) (too_many_told run)).run
     go true = entered
     go false = over_order run.board run.words
 
@@ -147,17 +123,17 @@ session_order told out len after words out_after next k o =
     (subst (λ (s : Session). OrderIn s.stage s.board told.run.words) (sym k.session) o)
 
 -- a schedule record in range
-pub read_tells : (session : Session) (words : List ℕ) (o : InOrder session.board words) (entry : Entry) (values out : List ℕ) (len : ℕ)
+pub read_tells : (session : Session) (words : List ℕ) (o : InOrder session.board words) (entry : Result Entry Refusal) (out : List ℕ) (len : ℕ)
     (me : ℕ) (q : Process) (words_after out_after : List ℕ) (next : ℕ) → me ≡ slot_of entry session.board.settings.n
-    → Answers (session.count + 1) session.board.settings entry values (process_at session.board me) words out len q words_after out_after next
-    → Tells (by_entry (run_of session words) entry values) out len
+    → Answers (session.count + 1) session.board.settings entry (process_at session.board me) words out len q words_after out_after next
+    → Tells (by_entry (run_of session words) entry) out len
     (record { stage = Running; board = put_process session.board me q; count = session.count + 1; held = 0; cr = false }) words_after out_after next
-read_tells session words o entry values out len me q words_after out_after next e k =
+read_tells session words o entry out len me q words_after out_after next e k =
     subst (λ (t : Told). Tells t out len (record { stage = Running; board = put_process session.board me q; count = session.count + 1; held = 0; cr = false }) words_after out_after next)
     (ap (λ (i : ℕ). record {
       printed = row_of (row_by (session.count + 1) session.board.settings entry (moved i).0);
-      run = record { stage = Running; board = put_process session.board i (moved i).0.process; words = (moved i).1; count = session.count + 1 };
-    }) e ∙ sym (entry_told (run_of session words) o entry values))
+      run = record { stage = Running; board = put_process session.board i (moved i).0.after; words = (moved i).1; count = session.count + 1 };
+    }) e ∙ sym (entry_told (run_of session words) o entry))
     (record {
       session = ap (λ (p : Process). record { stage = Running; board = put_process session.board me p; count = session.count + 1; held = 0; cr = false }) k.process;
       memory = k.memory;
@@ -165,58 +141,23 @@ read_tells session words o entry values out len me q words_after out_after next 
       place = k.place;
     })
   where
-    moved : ℕ → Moved × List ℕ
-    moved i = move_of session.board.settings entry values (process_at session.board i) words
+    moved : ℕ → Step
+    moved i = move_of session.board.settings entry (process_at session.board i) words
 
 -- a schedule record in range, by its bytes
 abbrev said : Run → List ℕ → Told
-said run bytes = by_entry run (schedule_of bytes run.board.settings.w).entry (schedule_of bytes run.board.settings.w).values
+said run bytes = by_entry run (schedule_of bytes run.board.settings.w)
 
--- a set-up record, by what was read of it
 module _ (session : Session) (words out : List ℕ) (len : ℕ) where
-  pub set_up_ready : (s : Settings) (set : SetUp) (words_after : List ℕ) → ◌≡◌ {A = SetUp × List ℕ} (set, words_after) (set_up_rule s words)
-      → set.start ≡ Accepted
-      → Tells (by_settings (run_of session words) (Read s)) out len
-      (record { stage = Running; board = set.board; count = 0; held = 0; cr = false }) words_after out len
-  set_up_ready s set words_after made ready =
-      subst (λ (r : SetUp × List ℕ). Tells (by_set_up (run_of session words) r.0.start r.0.board r.1) out len
-      (record { stage = Running; board = set.board; count = 0; held = 0; cr = false }) words_after out len) made
-      (subst (λ (start : Start). Tells (by_set_up (run_of session words) start set.board words_after) out len
-      (record { stage = Running; board = set.board; count = 0; held = 0; cr = false }) words_after out len) (sym ready)
-      (silent (record { stage = Running; board = set.board; words = words_after; count = 0 }) out len))
-
-  pub set_up_refuses : (s : Settings) (set : SetUp) (words_after : List ℕ) (why : Refusal) (row : Row) (after : Session) (out_after : List ℕ) (next : ℕ)
-      → ◌≡◌ {A = SetUp × List ℕ} (set, words_after) (set_up_rule s words) → set.start ≡ StartRefused why → row ≡ set_up_row why
-      → EndsWithRow row session out len after out_after next
-      → Tells (by_settings (run_of session words) (Read s)) out len after words_after out_after next
-  set_up_refuses s set words_after why row after out_after next made refused e k =
-      subst (λ (r : SetUp × List ℕ). Tells (by_set_up (run_of session words) r.0.start r.0.board r.1) out len after words_after out_after next) made
-      (subst (λ (start : Start). Tells (by_set_up (run_of session words) start set.board words_after) out len after words_after out_after next) (sym refused)
-      (ends_tell row (set_up_row why) session after words words_after out out_after len next e k))
-
-  -- .. and what is read is what the bytes say
-  pub as_read : (bytes : List ℕ) (read right : SettingsRead) (after : Session) (words_after out_after : List ℕ) (next : ℕ)
-      → read ≡ settings_of bytes → read ≡ right → Tells (by_settings (run_of session words) right) out len after words_after out_after next
-      → Tells (set_up_told (run_of session words) bytes) out len after words_after out_after next
-  unfolding set_up_told
-  as_read bytes read right after words_after out_after next e q k =
-      subst (λ (r : SettingsRead). Tells (by_settings (run_of session words) r) out len after words_after out_after next) (sym q ∙ e) k
-
-  pub settings_refused : (bytes : List ℕ) (read : SettingsRead) (why : Refusal) (row : Row) (after : Session) (out_after : List ℕ) (next : ℕ)
-      → read ≡ settings_of bytes → read ≡ SettingsRefused why → row ≡ set_up_row why → EndsWithRow row session out len after out_after next
-      → Tells (set_up_told (run_of session words) bytes) out len after words out_after next
-  settings_refused bytes read why row after out_after next e q r k =
-      as_read bytes read (SettingsRefused why) after words out_after next e q (ends_tell row (set_up_row why) session after words words out out_after len next r k)
-
   -- a schedule record, by its number
-  pub within_records : (bytes : List ℕ) (read : ScheduleRead) (after : Session) (words_after out_after : List ℕ) (next : ℕ)
+  pub within_records : (bytes : List ℕ) (read : Result Entry Refusal) (after : Session) (words_after out_after : List ℕ) (next : ℕ)
       → session.count < most_records → read ≡ schedule_of bytes session.board.settings.w
-      → Tells (by_entry (run_of session words) read.entry read.values) out len after words_after out_after next
+      → Tells (by_entry (run_of session words) read) out len after words_after out_after next
       → Tells (schedule_told (run_of session words) bytes) out len after words_after out_after next
   unfolding schedule_told
   within_records bytes read after words_after out_after next few e k =
       subst (λ (t : Told). Tells t out len after words_after out_after next)
-      (ap (λ (r : ScheduleRead). by_entry (run_of session words) r.entry r.values) e
+      (ap (by_entry (run_of session words)) e
       ∙ ap (λ (t : Bool). cond t (said (run_of session words) bytes) (too_many_told (run_of session words)))
       (sym (lt-ltb session.count most_records few))) k
 
@@ -236,11 +177,3 @@ module _ (session : Session) (words out : List ℕ) (len : ℕ) where
   unfolding record_told
   in_stage s bytes after words_after out_after next e k =
       subst (λ (x : Stage). Tells (told_in x (run_of session words) bytes) out len after words_after out_after next) (sym e) k
-
-  -- nothing is told when the run is over
-  pub over_told : (bytes : List ℕ) → session.stage ≡ Over
-      → Tells (told_in Over (run_of session words) bytes) out len
-      (record { stage = Over; board = session.board; count = session.count; held = 0; cr = false }) words out len
-  over_told bytes e =
-      subst (λ (s : Stage). Tells (told_in Over (run_of session words) bytes) out len (record { stage = s; board = session.board; count = session.count; held = 0; cr = false }) words out len) e
-      (silent (run_of session words) out len)

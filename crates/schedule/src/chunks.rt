@@ -34,10 +34,10 @@ fn running(board: Board, count: u64, held: usize, cr: bool) -> Session
 {
     Session {
         stage: Stage::Running,
-        board: board,
-        count: count,
-        held: held,
-        cr: cr,
+        board,
+        count,
+        held,
+        cr,
     }
 }
 
@@ -45,11 +45,10 @@ fn running(board: Board, count: u64, held: usize, cr: bool) -> Session
 fn fed_running(board: Board, count: u64, held: usize, cr: bool, next: usize, len: usize) -> Fed
     ensures { result ≡ record { session = record { stage = Running; board = board; count = count; held = held; cr = cr }; next = next; len = len } }
 {
-    let session = running(board, count, held, cr);
     Fed {
-        session: session,
-        next: next,
-        len: len,
+        session: running(board, count, held, cr),
+        next,
+        len,
     }
 }
 
@@ -59,10 +58,9 @@ fn fed_too_many(session: Session, next: usize, out: &mut [u8], len: usize) -> Fe
     ensures { EndsWithRow (nobodys_row (most_records + 1) TooManyRecords) session out.old len result.session out.new result.len × (result.next ≡ next) }
 {
     let last = end_with_too_many(session, out, len);
-    let after = last.session;
     Fed {
-        session: after,
-        next: next,
+        session: last.after,
+        next,
         len: last.len,
     }
 }
@@ -86,24 +84,22 @@ pub(crate) fn feed_set_up(
     let held = found.held;
     if found.closed {
         let next = take_set_up(session, &line[..held], mem, out, len);
-        let after = next.session;
         return Fed {
-            session: after,
+            session: next.after,
             next: found.next,
             len: next.len,
         };
     }
-    let board = session.board;
     Fed {
         session: Session {
             stage: Stage::Waiting,
-            board: board,
+            board: session.board,
             count: session.count,
-            held: held,
+            held,
             cr: found.cr,
         },
         next: found.next,
-        len: len,
+        len,
     }
 }
 
@@ -142,13 +138,9 @@ pub(crate) fn feed_running(
                 return fed_too_many(running(board, count, held, cr), next, out, size);
             }
             let read = read_schedule(&line[..held], s.w);
-            let entry = read.entry;
-            let values = read.values;
-            let me = slot(entry, s.n);
-            let p = board.processes[me];
-            let taken = answer(count + 1, s, entry, values, p, mem, out, size);
-            let q = taken.process;
-            board.processes[me] = q;
+            let me = slot(read, s.n);
+            let taken = answer(count + 1, s, read, board.processes[me], mem, out, size);
+            board.processes[me] = taken.after;
             size = taken.len;
             count += 1;
             held = 0;

@@ -5,21 +5,20 @@ ghost use Rattle.word.specs.declared.Refusal.TheVariants.{TooManyRecords};
 ghost use Rattle.answers.specs.Run.{most_records, nobodys_row};
 ghost use Rattle.schedule.specs.Telling.{EndsWithRow};
 
-use crate::{MOST_RECORDS, Next, Session};
-use answers::{Stage, nobodys_row};
+use crate::{MOST_RECORDS, Session};
+use answers::{Printed, Stage, nobodys_row};
 use printout::{Row, put_row};
 use word::Refusal;
 
-pub(crate) fn end_with(row: Row, session: Session, out: &mut [u8], len: usize) -> Next
+pub(crate) fn end_with(row: Row, session: Session, out: &mut [u8], len: usize) -> Printed<Session>
     requires { longest_row ≤ length out.old - len }
-    ensures { EndsWithRow row session out.old len result.session out.new result.len }
+    ensures { EndsWithRow row session out.old len result.after out.new result.len }
 {
     let next = put_row(row, out, len);
-    let board = session.board;
-    Next {
-        session: Session {
+    Printed {
+        after: Session {
             stage: Stage::Over,
-            board: board,
+            board: session.board,
             count: session.count,
             held: 0,
             cr: false,
@@ -29,9 +28,9 @@ pub(crate) fn end_with(row: Row, session: Session, out: &mut [u8], len: usize) -
 }
 
 // 12: the record after the 1,000,000th has its row, and ends the run.
-pub(crate) fn end_with_too_many(session: Session, out: &mut [u8], len: usize) -> Next
+pub(crate) fn end_with_too_many(session: Session, out: &mut [u8], len: usize) -> Printed<Session>
     requires { longest_row ≤ length out.old - len }
-    ensures { EndsWithRow (nobodys_row (most_records + 1) TooManyRecords) session out.old len result.session out.new result.len }
+    ensures { EndsWithRow (nobodys_row (most_records + 1) TooManyRecords) session out.old len result.after out.new result.len }
 {
     end_with(
         nobodys_row(MOST_RECORDS + 1, Refusal::TooManyRecords),

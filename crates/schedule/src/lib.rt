@@ -15,7 +15,7 @@ mod gather; // gather.rt: a record gathered in the lent line
 mod setup; // setup.rt: the set-up record
 mod take; // take.rt: one whole record
 
-use answers::Stage;
+use answers::{Printed, Stage};
 use board::blank_board;
 use printout::put_heading;
 use rules::Board;
@@ -37,13 +37,6 @@ pub struct Session {
     cr: bool,
 }
 
-// A run after a record or at its start, and how many bytes the output holds.
-#[derive(Clone, Copy)]
-pub struct Next {
-    pub session: Session,
-    pub len: usize,
-}
-
 // A run after some bytes: the place of the next byte, and how many bytes the output holds.
 #[derive(Clone, Copy)]
 pub struct Fed {
@@ -53,21 +46,20 @@ pub struct Fed {
 }
 
 // A run that waits for its set-up; the heading is written.
-pub fn start(out: &mut [u8]) -> Next
-    ensures { (result.session ≡ session_of beginning_run)
+pub fn start(out: &mut [u8]) -> Printed<Session>
+    ensures { (result.after ≡ session_of beginning_run)
         × (◌≡◌ {A = Written} (out.new, result.len) (put_heading out.old 0)) }
 {
     let len = put_heading(out, 0);
-    let board = blank_board();
-    Next {
-        session: Session {
+    Printed {
+        after: Session {
             stage: Stage::Waiting,
-            board: board,
+            board: blank_board(),
             count: 0,
             held: 0,
             cr: false,
         },
-        len: len,
+        len,
     }
 }
 
@@ -75,12 +67,7 @@ pub fn start(out: &mut [u8]) -> Next
 pub fn is_over(session: Session) -> bool
     ensures { result ≡ is_over session.stage }
 {
-    let stage = session.stage;
-    match stage {
-        Stage::Waiting => false,
-        Stage::Running => false,
-        Stage::Over => true,
-    }
+    matches!(session.stage, Stage::Over)
 }
 
 // Bytes of the chunk from `at` on, until none is left, there is no room for another row, or the stage changes.
@@ -99,34 +86,39 @@ pub fn feed(
 {
     if chunks::is_full(out.len(), len) {
         return Fed {
-            session: session,
+            session,
             next: at,
-            len: len,
+            len,
         };
     }
-    let stage = session.stage;
-    match stage {
+    match session.stage {
         Stage::Waiting => chunks::feed_set_up(session, chunk, at, line, mem, out, len),
         Stage::Running => chunks::feed_running(session, chunk, at, line, mem, out, len),
         Stage::Over => Fed {
-            session: session,
+            session,
             next: chunk.len(),
-            len: len,
+            len,
         },
     }
 }
 
 // The input has ended: a last record without its pair is answered.
-pub fn finish(session: Session, line: &[u8], mem: &mut [u64], out: &mut [u8], len: usize) -> Next
+pub fn finish(
+    session: Session,
+    line: &[u8],
+    mem: &mut [u64],
+    out: &mut [u8],
+    len: usize,
+) -> Printed<Session>
     requires { Ready session line.now mem.old × (longest_row ≤ length out.old - len) }
-    ensures { feeding result.session line.now mem.new out.new result.len
+    ensures { feeding result.after line.now mem.new out.new result.len
         ≡ finish_of (feeding session line.now mem.old out.old len) }
 {
     let held = session.held;
     if held == 0 {
-        return Next {
-            session: session,
-            len: len,
+        return Printed {
+            after: session,
+            len,
         };
     }
     take::take_record(session, &line[..held], mem, out, len)

@@ -9,36 +9,33 @@ ghost use Rattle.answers.specs.Run.{most_records, by_entry, schedule_told, recor
 
 use crate::ends::end_with_too_many;
 use crate::setup::take_set_up;
-use crate::{MOST_RECORDS, Next, Session};
-use answers::{Stage, answer, slot};
-use record::{ScheduleRead, read_schedule};
+use crate::{MOST_RECORDS, Session};
+use answers::{Printed, Stage, answer, slot};
+use record::{Entry, read_schedule};
+use word::Refusal;
 
 #[tactic(auto, using(answers::proofs::OneProcess::all_sized))]
 fn take_read(
     session: Session,
-    read: ScheduleRead,
+    read: Result<Entry, Refusal>,
     mem: &mut [u64],
     out: &mut [u8],
     len: usize,
-) -> Next
+) -> Printed<Session>
     requires { InOrder session.board mem.old × (session.count < most_records) × (longest_row ≤ length out.old - len) }
-    ensures { Tells (by_entry (run_of session mem.old) read.entry read.values) out.old len result.session mem.new out.new result.len }
+    ensures { Tells (by_entry (run_of session mem.old) read) out.old len result.after mem.new out.new result.len }
 {
     let mut board = session.board;
     let s = board.settings;
-    let entry = read.entry;
-    let values = read.values;
-    let me = slot(entry, s.n);
-    let p = board.processes[me];
+    let me = slot(read, s.n);
     let count = session.count + 1;
-    let taken = answer(count, s, entry, values, p, mem, out, len);
-    let q = taken.process;
-    board.processes[me] = q;
-    Next {
-        session: Session {
+    let taken = answer(count, s, read, board.processes[me], mem, out, len);
+    board.processes[me] = taken.after;
+    Printed {
+        after: Session {
             stage: Stage::Running,
-            board: board,
-            count: count,
+            board,
+            count,
             held: 0,
             cr: false,
         },
@@ -46,51 +43,47 @@ fn take_read(
     }
 }
 
+#[tactic(auto, unfolding(answers::specs::Run::schedule_told))]
 fn take_schedule(
     session: Session,
     bytes: &[u8],
     mem: &mut [u64],
     out: &mut [u8],
     len: usize,
-) -> Next
+) -> Printed<Session>
     requires { InOrder session.board mem.old × (longest_row ≤ length out.old - len) }
-    ensures { Tells (schedule_told (run_of session mem.old) bytes.now) out.old len result.session mem.new out.new result.len }
+    ensures { Tells (schedule_told (run_of session mem.old) bytes.now) out.old len result.after mem.new out.new result.len }
 {
     if session.count < MOST_RECORDS {
-        let board = session.board;
-        let s = board.settings;
-        let read = read_schedule(bytes, s.w);
+        let read = read_schedule(bytes, session.board.settings.w);
         return take_read(session, read, mem, out, len);
     }
     end_with_too_many(session, out, len)
 }
 
+#[tactic(auto, unfolding(answers::specs::Run::record_told))]
 pub(crate) fn take_record(
     session: Session,
     bytes: &[u8],
     mem: &mut [u64],
     out: &mut [u8],
     len: usize,
-) -> Next
+) -> Printed<Session>
     requires { OrderIn session.stage session.board mem.old × (longest_row ≤ length out.old - len) }
-    ensures { Tells (record_told (run_of session mem.old) bytes.now) out.old len result.session mem.new out.new result.len }
+    ensures { Tells (record_told (run_of session mem.old) bytes.now) out.old len result.after mem.new out.new result.len }
 {
-    let stage = session.stage;
-    match stage {
+    match session.stage {
         Stage::Waiting => take_set_up(session, bytes, mem, out, len),
         Stage::Running => take_schedule(session, bytes, mem, out, len),
-        Stage::Over => {
-            let board = session.board;
-            Next {
-                session: Session {
-                    stage: Stage::Over,
-                    board: board,
-                    count: session.count,
-                    held: 0,
-                    cr: false,
-                },
-                len: len,
-            }
-        }
+        Stage::Over => Printed {
+            after: Session {
+                stage: Stage::Over,
+                board: session.board,
+                count: session.count,
+                held: 0,
+                cr: false,
+            },
+            len,
+        },
     }
 }

@@ -190,7 +190,7 @@ fn run(
     ensures { Runs line.old out.old out.new result.held result.input }
 {
     let begun = schedule::start(out);
-    let session = begun.session;
+    let session = begun.after;
     let heading = output::begun(begun.len);
     let read = read_all(rt, session, heading, line, mem, buffer, out);
     let state = read.state;

@@ -11,5 +11,5 @@ answer-taken-requires c =
 pub returns : goal.returns
 returns c =
     let a = c.args in
-    read_tells a.session a.mem.now c.requires.0 a.read.entry a.read.values a.out.now a.len _ _ _ _ _
+    read_tells a.session a.mem.now c.requires.0 a.read a.out.now a.len _ _ _ _ _
     c.slot-me.ensures.0 c.answer-taken.ensures
