@@ -17,28 +17,20 @@ pub fn is_open(mask: u16, x: usize) -> bool
     (mask >> (x as u16)) % 2 == 1
 }
 
-#[tactic(auto, using(rules::proofs::Sequences::Masks::bit), unfolding(rules::specs::Processes::with_open))]
+#[tactic(auto, using(crate::proofs::Bits::bit_set))]
 fn with_open(mask: u16, x: usize) -> u16
     requires { x < 16 }
     ensures { result ≡ with_open mask x }
 {
-    if is_open(mask, x) {
-        mask
-    } else {
-        mask + (1 << (x as u16))
-    }
+    mask | (1 << (x as u16))
 }
 
-#[tactic(auto, using(rules::proofs::Sequences::Masks::bit), unfolding(rules::specs::Processes::with_closed))]
+#[tactic(auto, using(crate::proofs::Bits::bit_cleared))]
 fn with_closed(mask: u16, x: usize) -> u16
     requires { x < 16 }
     ensures { result ≡ with_closed mask x }
 {
-    if is_open(mask, x) {
-        mask - (1 << (x as u16))
-    } else {
-        mask
-    }
+    mask & !(1 << (x as u16))
 }
 
 fn at_place(place: Place, p: Process) -> Process
