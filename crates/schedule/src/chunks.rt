@@ -1,5 +1,5 @@
 // Bytes of the input fed to a run, as far as there is room for rows.
-ghost use Rattle.std.specs.Prelude.{◌≡◌, ◌+◌, ◌-◌, ◌≤◌, ltb, length};
+ghost use Rattle.std.specs.Prelude.{◌≡◌, ◌+◌, ◌-◌, ◌≤◌, nat_lt, length};
 ghost use Rattle.printout.specs.Writing.{longest_row};
 ghost use Rattle.schedule.specs.Feeds.{Feeds};
 ghost use Rattle.schedule.specs.Ready.{Ready};
@@ -19,13 +19,9 @@ use rules::Board;
 
 // There may be no room for another row.
 pub(crate) fn is_full(lent: usize, len: usize) -> bool
-    ensures { result ≡ ltb (lent - len) longest_row }
+    ensures { result ≡ nat_lt (lent - len) longest_row }
 {
-    if len < lent {
-        lent - len < LONGEST_ROW
-    } else {
-        true
-    }
+    lent.saturating_sub(len) < LONGEST_ROW
 }
 
 // A running session with its parts; the record that is gathered.

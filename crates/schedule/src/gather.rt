@@ -1,5 +1,5 @@
 // Gathering a record in a lent line, from the bytes of a chunk, up to its closing CR LF.
-ghost use Rattle.std.specs.Prelude.{◌≡◌, false, ◌&&◌, ◌≤◌, eqb, length};
+ghost use Rattle.std.specs.Prelude.{◌≡◌, ◌==◌, false, ◌&&◌, ◌≤◌, length};
 ghost use Rattle.schedule.specs.Feeds.{Gathers};
 ghost use Rattle.schedule.specs.Gathering.{line_length, put};
 
@@ -14,16 +14,16 @@ pub struct Found {
 }
 
 fn is_closing(byte: u8, cr: bool) -> bool
-    ensures { result ≡ eqb byte 10 && cr }
+    ensures { result ≡ ((byte == 10) && cr) }
 {
-    if byte == b'\n' { cr } else { false }
+    byte == b'\n' && cr
 }
 
 #[tactic(auto, unfolding(crate::specs::Gathering::put))]
 fn keep_byte(line: &mut [u8], held: usize, byte: u8) -> usize
     requires { (length line.old ≡ line_length) × (held ≤ line_length) }
-    ensures { (line.exit.now ≡ (put (record { line = line.entry.now; held = held; cr = false }) byte).line)
-        × (result ≡ (put (record { line = line.entry.now; held = held; cr = false }) byte).held) × (result ≤ line_length) }
+    ensures { (line.new ≡ (put (record { line = line.old; held = held; cr = false }) byte).line)
+        × (result ≡ (put (record { line = line.old; held = held; cr = false }) byte).held) × (result ≤ line_length) }
 {
     if held < LINE_LENGTH {
         line[held] = byte;
