@@ -1,37 +1,52 @@
 -- Laws of gathering: one byte more, the closing byte, the end of the bytes. Assumes nothing.
-use Prim.Native.Nat.{ℕ, ◌+◌, ◌<◌, ◌≤◌}
-use mathlib.Core.Path.{◌≡◌, sym, ◌∙◌}
+use Prim.Native.Nat.{ℕ, ◌+◌, ◌-◌, ◌<◌, ◌≤◌}
+use native.Mathlib.Omega.{arith}
+use mathlib.Core.Path.{◌≡◌, refl}
 use mathlib.Core.Bool.{Bool, true, false, ◌&&◌}
-use mathlib.Core.List.{List}
+use mathlib.Core.List.{List, ◌∷◌}
 use lib.Dec.{eqb}
-use lib.ListN.{length, drop, get_or, drop_of_length-le}
+use lib.ListN.{length, take, drop, get_or, drop_of_length-le}
+use Rattle.std.proofs.lemmas.List.{take_rest, length-drop, get_or-drop}
+use Rattle.std.proofs.Math.Seq.{drop-length}
+use Rattle.std.proofs.Common.{add_assoc}
 use Rattle.fields.proofs.Splits.{drop_step}
-use Rattle.schedule.specs.Gathering.{Held, put, closes, gather_of}
+use Rattle.schedule.specs.Gathering.{Held, Gathered, put, closes, gather_of}
 
-module _ (h : Held) (s : List ℕ) (i : ℕ) (l : i < length s) where
-  pub gather_closed : closes h (get_or s i 0) ≡ true
-      → gather_of h (drop i s) ≡ record { held = put h (get_or s i 0); left = drop (i + 1) s; closed = true }
-  unfolding gather_of
-  gather_closed e = rw drop_step (simp e)
+pub within : (s : List ℕ) (at i : ℕ) → i < length (take (length s - at) (drop at s)) → at + i + 1 ≤ length s
+within s at i l = omega (arith, simp (take_rest, length-drop) at l)
 
-  pub gather_more : closes h (get_or s i 0) ≡ false → gather_of h (drop i s) ≡ gather_of (put h (get_or s i 0)) (drop (i + 1) s)
-  unfolding gather_of
-  gather_more e = rw drop_step (simp e)
+-- of the bytes from `at` on byte `i`, put into the record, and the test whether it closes that
+module _ (h : Held) (s : List ℕ) (at i : ℕ) (l : i < length (take (length s - at) (drop at s))) where
+  abbrev byte : ℕ
+  byte = get_or (take (length s - at) (drop at s)) i 0
 
-pub gather_end : (h : Held) (s : List ℕ) (i : ℕ) → length s ≤ i
-    → gather_of h (drop i s) ≡ record { held = h; left = drop i s; closed = false }
+  abbrev without : Held
+  without = record { line = h.line; held = h.held; cr = false }
+
+  step : drop (at + i) s ≡ byte ∷ drop (at + i + 1) s
+  step = let w : at + i < length s = omega (arith, within s at i l) in rw (take_rest, get_or-drop) (drop_step s (at + i) w)
+
+  module _ (test : Bool) (says : test ≡ (eqb byte 10 && h.cr)) (line : List ℕ) (held : ℕ)
+      (p : line ≡ (put without byte).line) (q : held ≡ (put without byte).held) where
+    abbrev after : Held
+    after = record { line = line; held = held; cr = eqb byte 13 }
+
+    same : after ≡ put h byte
+    unfolding put
+    same = λ i. record { line = p i; held = q i; cr = eqb byte 13 }
+
+    pub gather_closed : test ≡ true
+        → ◌≡◌ {A = Gathered} (record { held = after; left = drop (at + i + 1) s; closed = true }) (gather_of h (drop (at + i) s))
+    unfolding gather_of closes
+    gather_closed e = rw (step, same, ← says, e) refl
+
+    pub gather_more : test ≡ false → gather_of after (drop (at + (i + 1)) s) ≡ gather_of h (drop (at + i) s)
+    unfolding gather_of closes
+    gather_more e = rw (← add_assoc, step, same, ← says, e) refl
+
+pub gather_end : (h : Held) (s : List ℕ) (at i : ℕ) → length (take (length s - at) (drop at s)) ≤ i
+    → ◌≡◌ {A = Gathered} (record { held = h; left = drop (length s) s; closed = false }) (gather_of h (drop (at + i) s))
 unfolding gather_of
-gather_end h s i l = rw (drop_of_length-le s)
-
--- a record with a byte more, from the line and the count after it
-pub put_byte : (h : Held) (byte : ℕ) (line : List ℕ) (held : ℕ)
-    → line ≡ (put (record { line = h.line; held = h.held; cr = false }) byte).line
-    → held ≡ (put (record { line = h.line; held = h.held; cr = false }) byte).held
-    → ◌≡◌ {A = Held} (record { line = line; held = held; cr = eqb byte 13 }) (put h byte)
-unfolding put
-put_byte h byte line held p q = λ i. record { line = p i; held = q i; cr = eqb byte 13 }
-
--- the test of the closing byte
-pub closes_by : (h : Held) (byte : ℕ) (test answer : Bool) → test ≡ eqb byte 10 && h.cr → test ≡ answer → closes h byte ≡ answer
-unfolding closes
-closes_by h byte test answer p q = sym p ∙ q
+gather_end h s at i l =
+    let e : length s ≤ at + i = omega (arith, simp (take_rest, length-drop) at l) in
+    rw (drop-length, drop_of_length-le s e) refl

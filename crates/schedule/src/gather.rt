@@ -5,6 +5,8 @@ ghost use Rattle.schedule.specs.Gathering.{line_length, put};
 
 use crate::LINE_LENGTH;
 
+// `closed` stands beside the others since all of them mean something either way: where the chunk ends first, the record goes on
+// from what is held and from its last CR.
 #[derive(Clone, Copy)]
 pub struct Found {
     pub held: usize,
@@ -27,38 +29,41 @@ fn keep_byte(line: &mut [u8], held: usize, byte: u8) -> usize
 {
     if held < LINE_LENGTH {
         line[held] = byte;
-        return held + 1;
+        held + 1
+    } else {
+        held
     }
-    held
 }
 
 // The bytes of the chunk from `at` on, until the record is closed or the chunk ends.
-pub(crate) fn gather(held: usize, cr: bool, chunk: &[u8], at: usize, line: &mut [u8]) -> Found
+#[tactic(auto, using(crate::proofs::Gathering::gather_more, crate::proofs::Gathering::gather_end))]
+pub(crate) fn gather(
+    mut held: usize,
+    mut cr: bool,
+    chunk: &[u8],
+    at: usize,
+    line: &mut [u8],
+) -> Found
     requires { (length line.old ≡ line_length) × (held ≤ line_length) × (at ≤ length chunk.now) }
     ensures { Gathers held cr chunk.now at line.old result line.new }
 {
-    let mut kept = held;
-    let mut last = cr;
-    let mut i = at;
-    while i < chunk.len() {
-        let byte = chunk[i];
-        let closed = is_closing(byte, last);
-        kept = keep_byte(line, kept, byte);
-        last = byte == b'\r';
-        i += 1;
+    for (i, &byte) in chunk[at..].iter().enumerate() {
+        let closed = is_closing(byte, cr);
+        held = keep_byte(line, held, byte);
+        cr = byte == b'\r';
         if closed {
             return Found {
-                held: kept,
-                cr: last,
-                next: i,
+                held,
+                cr,
+                next: at + i + 1,
                 closed: true,
             };
         }
     }
     Found {
-        held: kept,
-        cr: last,
-        next: i,
+        held,
+        cr,
+        next: chunk.len(),
         closed: false,
     }
 }
