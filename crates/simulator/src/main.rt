@@ -3,7 +3,7 @@
 // as many bytes are taken as were read; that what is put into the output is written before another stands in its place, and
 // so that, where no write failed, as many bytes were written as the printout of those taken has (`print`). What they cannot say
 // is which bytes the system reads and writes: that is to be believed of the one read in input.rt and the one write in output.rt;
-// and of this file that `turn` alone feeds the run, and that no result of `input::read` or `output::flush` is left unused.
+// and of this file that `turn` alone feeds the run, and that no result of `Input::read` or `Output::flush` is left unused.
 #![tactic(auto)]
 
 ghost use Rattle.std.specs.Prelude.{◌≡◌, ◌||◌, ◌+◌, ◌≤◌, ◌<◌, length};
@@ -49,17 +49,18 @@ fn make_room(rt: HostRuntime, out: &[u8], held: Output) -> Output
     requires { (held.len ≤ length out.now) × (held.written + held.len ≤ longest_printout) }
     ensures { MakesRoom (length out.now) held result }
 {
-    if out.len() - output::waiting(held) < LONGEST_ROW {
-        return output::flush(rt, out, held);
+    if out.len() - held.waiting() < LONGEST_ROW {
+        held.flush(rt, out)
+    } else {
+        held
     }
-    held
 }
 
 // All bytes of one chunk.
 fn take_chunk(
     rt: HostRuntime,
-    session: Session,
-    held: Output,
+    mut session: Session,
+    mut held: Output,
     chunk: &[u8],
     line: &mut [u8],
     mem: &mut [u64],
@@ -70,21 +71,17 @@ fn take_chunk(
         (point session line.old mem.old out.old held) chunk.now
         (point result.session line.new mem.new out.new result.held) }
 {
-    let mut run = session;
-    let mut output = held;
     let mut at: usize = 0;
+    // A turn takes as many bytes as there is room for rows, so that no `for` counts them.
     while at < chunk.len() {
-        let room = make_room(rt, out, output);
-        let len = output::waiting(room);
-        let fed = schedule::feed(run, chunk, at, line, mem, out, len);
-        run = fed.session;
+        let room = make_room(rt, out, held);
+        let len = room.waiting();
+        let fed = schedule::feed(session, chunk, at, line, mem, out, len);
+        session = fed.session;
         at = fed.next;
-        output = output::grown(room, fed.len);
+        held = room.grown(fed.len);
     }
-    State {
-        session: run,
-        held: output,
-    }
+    State { session, held }
 }
 
 // One read of the input, and all that it gave.
@@ -103,11 +100,11 @@ fn turn(
         (point session line.old mem.old out.old held) input
         (point result.state.session line.new mem.new out.new result.state.held) result.input buffer.new }
 {
-    let after = input::read(rt, input, buffer);
-    let got = input::total(after) - input::total(input);
+    let after = input.read(rt, buffer);
+    let got = after.total() - input.total();
     let state = take_chunk(rt, session, held, &buffer[..got], line, mem, out);
     AfterRead {
-        state: state,
+        state,
         input: after,
     }
 }
@@ -115,10 +112,7 @@ fn turn(
 fn has_stopped(session: Session, input: Input) -> bool
     ensures { result ≡ (input.ended || is_over session.stage) }
 {
-    if input::has_ended(input) {
-        return true;
-    }
-    schedule::is_over(session)
+    input.has_ended() || schedule::is_over(session)
 }
 
 // The whole input, up to its end or the run's.
@@ -136,28 +130,19 @@ fn read_all(
         (point session line.old mem.old out.old held)
         (point result.state.session line.new mem.new out.new result.state.held) result.input }
 {
-    let mut run = session;
-    let mut output = held;
-    let mut input = input::unread();
-    let mut total: usize = 0;
-    while total < MOST_READ {
-        let taken = turn(rt, run, output, input, line, mem, buffer, out);
-        let state = taken.state;
-        run = state.session;
-        output = state.held;
-        input = taken.input;
-        total = input::total(input);
-        if has_stopped(run, input) {
-            return taken;
+    let mut after = AfterRead {
+        state: State { session, held },
+        input: Input::unread(),
+    };
+    // What a read gives is not known before it, so that no `for` counts the turns.
+    while after.input.total() < MOST_READ {
+        let State { session, held } = after.state;
+        after = turn(rt, session, held, after.input, line, mem, buffer, out);
+        if has_stopped(after.state.session, after.input) {
+            return after;
         }
     }
-    AfterRead {
-        state: State {
-            session: run,
-            held: output,
-        },
-        input: input,
-    }
+    after
 }
 
 // The end of the input: the output with the last record's row.
@@ -173,9 +158,9 @@ fn end(
     ensures { Finishes (point session line.now mem.old out.old held) out.new result }
 {
     let room = make_room(rt, out, held);
-    let len = output::waiting(room);
+    let len = room.waiting();
     let last = schedule::finish(session, line, mem, out, len);
-    output::grown(room, last.len)
+    room.grown(last.len)
 }
 
 // A whole run, but for what waits at its end.
@@ -190,16 +175,13 @@ fn run(
     ensures { Runs line.old out.old out.new result.held result.input }
 {
     let begun = schedule::start(out);
-    let session = begun.after;
-    let heading = output::begun(begun.len);
-    let read = read_all(rt, session, heading, line, mem, buffer, out);
+    let heading = Output::begun(begun.len);
+    let read = read_all(rt, begun.after, heading, line, mem, buffer, out);
     let state = read.state;
-    let after = state.session;
-    let held = end(rt, after, state.held, line, mem, out);
-    let input = read.input;
+    let held = end(rt, state.session, state.held, line, mem, out);
     Ended {
-        held: held,
-        input: input,
+        held,
+        input: read.input,
     }
 }
 
@@ -215,12 +197,10 @@ fn print(
     ensures { Prints line.old out.old out.new result.held result.input }
 {
     let ended = run(rt, line, mem, buffer, out);
-    let last = ended.held;
-    let written = output::flush(rt, out, last);
-    let input = ended.input;
+    let written = ended.held.flush(rt, out);
     Ended {
         held: written,
-        input: input,
+        ..ended
     }
 }
 

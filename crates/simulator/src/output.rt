@@ -9,7 +9,7 @@ ghost use Rattle.simulator.specs.Outputs.{Flushes};
 use std::io::Write;
 
 // The first `len` bytes wait, and `written` were written before them. After a write that failed no other is made and none is
-// counted, so that a printout is cut short but has no gap.
+// counted, so that a printout is cut short but has no gap. So `failed` stands beside the counts: both mean something after a failure too.
 #[derive(Clone, Copy)]
 pub struct Output {
     len: usize,
@@ -17,54 +17,51 @@ pub struct Output {
     failed: bool,
 }
 
-// The heading waits.
-pub fn begun(len: usize) -> Output
-    requires { len ≡ length heading }
-    ensures { result ≡ record { len = len; written = 0; failed = false } }
-{
-    Output {
-        len: len,
-        written: 0,
-        failed: false,
+impl Output {
+    // The heading waits.
+    pub fn begun(len: usize) -> Output
+        requires { len ≡ length heading }
+        ensures { result ≡ record { len = len; written = 0; failed = false } }
+    {
+        Output {
+            len,
+            written: 0,
+            failed: false,
+        }
     }
-}
 
-// More bytes wait than before.
-pub fn grown(output: Output, len: usize) -> Output
-    requires { output.len ≤ len }
-    ensures { result ≡ record { len = len; written = output.written; failed = output.failed } }
-{
-    Output {
-        len: len,
-        written: output.written,
-        failed: output.failed,
+    // More bytes wait than before.
+    pub fn grown(self, len: usize) -> Output
+        requires { self.len ≤ len }
+        ensures { result ≡ record { len = len; written = self.written; failed = self.failed } }
+    {
+        Output { len, ..self }
     }
-}
 
-// How many bytes wait.
-pub fn waiting(output: Output) -> usize
-    ensures { result ≡ output.len }
-{
-    output.len
-}
+    // How many bytes wait.
+    pub fn waiting(self) -> usize
+        ensures { result ≡ self.len }
+    {
+        self.len
+    }
 
-// Writes the bytes that wait, so that none does.
-pub fn flush(rt: HostRuntime, out: &[u8], output: Output) -> Output
-    requires { (output.len ≤ length out.now) × (output.written + output.len ≤ longest_printout) }
-    ensures { Flushes output result }
-{
-    let len = output.len;
-    if output.failed {
-        return emptied(output.written, true);
+    // Writes the bytes that wait, so that none does.
+    pub fn flush(self, rt: HostRuntime, out: &[u8]) -> Output
+        requires { (self.len ≤ length out.now) × (self.written + self.len ≤ longest_printout) }
+        ensures { Flushes self result }
+    {
+        if self.failed {
+            return emptied(self.written, true);
+        }
+        if rt.stdout().write_all(&out[..self.len]).is_ok() {
+            return emptied(self.written + self.len, false);
+        }
+        warn(
+            rt,
+            b"simulator: the printout could not be written to its end\n",
+        );
+        emptied(self.written, true)
     }
-    if rt.stdout().write_all(&out[..len]).is_ok() {
-        return emptied(output.written + len, false);
-    }
-    warn(
-        rt,
-        b"simulator: the printout could not be written to its end\n",
-    );
-    emptied(output.written, true)
 }
 
 fn emptied(written: usize, failed: bool) -> Output
@@ -72,8 +69,8 @@ fn emptied(written: usize, failed: bool) -> Output
 {
     Output {
         len: 0,
-        written: written,
-        failed: failed,
+        written,
+        failed,
     }
 }
 

@@ -1,36 +1,30 @@
 -- `take_chunk` meets its contract. Assumes nothing.
 use native.Mathlib.Omega.{arith}
-use mathlib.Core.Path.{refl}
 use Rattle.simulator.proofs.Points.{taken_none, can_flush, rows_put, forward, goes_on_lem}
 use Rattle.simulator.proofs.take_chunk.Goals as goal
 
 pub loop-at-init : goal.loop-at-init
-loop-at-init c = (omega arith, refl, refl, refl, record { taken = taken_none _; stands = c.requires })
+loop-at-init c = (omega arith, record { taken = taken_none _; stands = c.requires })
 
 pub make_room-room-requires : goal.make_room-room-requires
-make_room-room-requires c = can_flush _ c.loop-at.invariant.4.stands
+make_room-room-requires c = can_flush _ c.loop-at.invariant.1.stands
 
-pub grown-output-requires : goal.grown-output-requires
-grown-output-requires c =
+pub grown-held-requires : goal.grown-held-requires
+grown-held-requires c =
     let loop = c.loop-at in
-    let put = rows_put _ loop.invariant.4.stands _ c.make_room-room.ensures _ _ _ c.waiting-len.ensures _ _ _ _ c.feed-fed.ensures in
+    let put = rows_put _ loop.invariant.1.stands _ c.make_room-room.ensures _ _ _ c.waiting-len.ensures _ _ _ _ c.feed-fed.ensures in
     omega (arith, put, c.waiting-len.ensures)
 
 pub loop-at-smaller : goal.loop-at-smaller
 loop-at-smaller c =
     let loop = c.loop-at in
-    let further = forward _ loop.invariant.4.stands _ c.make_room-room.ensures _ _ _ c.waiting-len.ensures _ _ _ _ c.feed-fed.ensures
+    let further = forward _ loop.invariant.1.stands _ c.make_room-room.ensures _ _ _ c.waiting-len.ensures _ _ _ _ c.feed-fed.ensures
     c.loop-at-test.true in
     omega (arith, further, c.feed-fed.ensures.within)
 
 pub loop-at-preserved : goal.loop-at-preserved
 loop-at-preserved c =
     let loop = c.loop-at in
-    let on = goes_on_lem _ loop.invariant.4.stands _ c.make_room-room.ensures _ _ _ c.waiting-len.ensures _ _ _ _ c.feed-fed.ensures
-    _ loop.invariant.0 (omega arith) _ c.grown-output.ensures loop.invariant.4.taken in (
-      c.feed-fed.ensures.within,
-      omega arith,
-      omega arith,
-      omega arith,
-      on,
-    )
+    let on = goes_on_lem _ loop.invariant.1.stands _ c.make_room-room.ensures _ _ _ c.waiting-len.ensures _ _ _ _ c.feed-fed.ensures
+    _ loop.invariant.0 (omega arith) _ c.grown-held.ensures loop.invariant.1.taken in
+    (c.feed-fed.ensures.within, on)

@@ -1,7 +1,6 @@
 -- The invariant of `take_chunk`: the bytes before `at` are taken. Each turn makes room and takes a byte at least, so that
 -- the measure is what is left of the chunk.
 use Prim.Native.Nat.{◌-◌, ◌≤◌}
-use mathlib.Core.Path.{◌≡◌}
 use lib.ListN.{length, take}
 use Rattle.simulator.specs.Points.{point, TakesChunk}
 use Rattle.simulator.proofs.take_chunk.Given as goal
@@ -9,13 +8,10 @@ use Rattle.simulator.proofs.take_chunk.Given as goal
 abbrev pub invariant-loop-at : goal.invariant-loop-at
 invariant-loop-at l =
     (l.at ≤ length l.chunk)
-    × (length l.line ≡ length l.initial.line)
-    × (length l.mem ≡ length l.initial.mem)
-    × (length l.out ≡ length l.initial.out)
     × TakesChunk
-    (point l.initial.run l.initial.line l.initial.mem l.initial.out l.initial.output)
+    (point l.initial.session l.initial.line l.initial.mem l.initial.out l.initial.held)
     (take l.at l.chunk)
-    (point l.run l.line l.mem l.out l.output)
+    (point l.session l.line l.mem l.out l.held)
 
 abbrev pub decreases-loop-at : goal.decreases-loop-at
 decreases-loop-at l = length l.chunk - l.at
