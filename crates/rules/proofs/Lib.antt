@@ -1,7 +1,6 @@
 -- What is proved about the rules; Theorems names each theorem. The lemmas for tests and choices come first, then a folder for
 -- each thing that is shown.
 pub mod Tests
-pub mod Trying
 pub mod Branches
 pub mod Calls
 pub mod Sizes

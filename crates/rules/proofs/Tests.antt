@@ -1,10 +1,9 @@
 -- Tests joined by `&&`, and tests of every number below a bound: what each says of its parts. Assumes nothing.
-use mathlib.Core.Path.{◌≡◌, refl, sym, ap, ◌∙◌}
+use mathlib.Core.Path.{◌≡◌, refl, ap, ◌∙◌}
 use mathlib.Core.Bool.{Bool, true, false, ◌&&◌}
 use mathlib.Core.Logic.{⊎_elim}
-use Prim.Native.Nat.{ℕ, zero, suc, ◌+◌, ◌<◌}
+use Prim.Native.Nat.{ℕ, zero, suc, ◌<◌}
 use native.Mathlib.Nat.{not-suc-le-zero, le_of_suc-le-suc, eq-or-lt_of_le}
-use native.Mathlib.Numerals.{add-one}
 use native.Mathlib.Omega.{arith}
 use Rattle.rules.specs.GoodForm.{all}
 
@@ -21,23 +20,6 @@ and_right false b e = cc
 
 pub and_both : (a b : Bool) → a ≡ true → b ≡ true → (a && b) ≡ true
 and_both a b p q = rw (p, q)
-
-pub and_no : (a b : Bool) → b ≡ false → (a && b) ≡ false
-and_no true b e = e
-and_no false b e = refl
-
-pub all_more : (test : ℕ → Bool) (n : ℕ) → all n test ≡ true → test n ≡ true → all (n + 1) test ≡ true
-unfolding all
-all_more test n h e = rw (add-one) (simp (h, e))
-
-pub all_no : (test : ℕ → Bool) (i n : ℕ) → i < n → test i ≡ false → all n test ≡ false
-unfolding all
-all_no test i zero h e = absurd (not-suc-le-zero h)
-all_no test i (suc n) h e =
-    ⊎_elim
-    (λ (q : i ≡ n). and_no (all n test) (test n) (ap test (sym q) ∙ e))
-    (λ (l : i < n). rw (all_no test i n l e))
-    (eq-or-lt_of_le (le_of_suc-le-suc h))
 
 pub all_at : (test : ℕ → Bool) (i n : ℕ) → all n test ≡ true → i < n → test i ≡ true
 unfolding all

@@ -3,7 +3,7 @@
 use Rattle.std.specs.Prelude.{List, [], ◌∷◌, ℕ, take}
 use Rattle.word.specs.Refusals.{number, Told, told}
 use Rattle.rules.specs.Text.{ascii}
-use Rattle.rules.specs.Types.{Answer, Begun, Busy, Value, Witness, Yes, No, Reply, Result, Ok, Err, Board, Refusal}
+use Rattle.rules.specs.Types.{Begun, Busy, Value, Witness, Yes, No, Reply, Result, Ok, Err, Board, Refusal}
 
 abbrev pub answer_word : Reply → List ℕ
 answer_word (Ok Begun) = ascii "begun"

@@ -8,7 +8,7 @@ use Rattle.rules.specs.Processes.{open_count, refusing}
 use Rattle.rules.specs.Refusals.{fine, sizes_check, process_check, begin_check, step_check}
 use Rattle.rules.specs.Runs.{State, Event, fresh, run}
 use Rattle.rules.specs.Sizes.{words_used}
-use Rattle.rules.specs.Types.{Board, Call, Settings, Ok, Err, Refusal, SettingOutsideSizes}
+use Rattle.rules.specs.Types.{Board, Call, Settings, Err, Refusal, SettingOutsideSizes}
 
 -- a refusal answers its number and leaves board and words as found; a refused set-up gives its number and nothing else
 pub record RefusalsLeaveAll : Type 0 where

@@ -15,7 +15,7 @@ use Rattle.rules.specs.OwnSteps.{taken}
 use Rattle.rules.specs.Processes.{is_idle, is_open, with_closed, kept_of, opening, closing, ends}
 use Rattle.rules.specs.Sizes.{bits, word_at, header_at, segment_at, announce_at, word_of, header_of, segment_of}
 use Rattle.rules.specs.Steps.{step_from}
-use Rattle.rules.specs.Types.{Answer, Reply, Copy, Answered, Process, Place, Idle, LoadReadsWord, ValidateReadsWord, StoreSwapsWord, LoadReadsHeader, ValidateReadsHeader, StoreReadsHeader, StoreAnnounces, StoreSwapsHeader, ReadsSegment, ReadsAnnounced, SwapsSegment, ReadsSegmentAgain, ReadsHeader, Settings}
+use Rattle.rules.specs.Types.{Answer, Copy, Answered, Process, Place, Idle, LoadReadsWord, ValidateReadsWord, StoreSwapsWord, LoadReadsHeader, ValidateReadsHeader, StoreReadsHeader, StoreAnnounces, StoreSwapsHeader, ReadsSegment, ReadsAnnounced, SwapsSegment, ReadsSegmentAgain, ReadsHeader, Settings}
 use Rattle.rules.proofs.Branches.{branch, both_arms}
 use Rattle.rules.proofs.Sequences.Closing.{opening_opens, opening_no_other, closing_closes, closing_no_other}
 use Rattle.rules.proofs.Changes.Places.{variable_at, Writes, open_after}

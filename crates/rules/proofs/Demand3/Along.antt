@@ -13,9 +13,9 @@ use Rattle.rules.specs.Entry.{begin_rule, step_rule}
 use Rattle.rules.specs.Onlooker.{Seen, note_of, seen_in}
 use Rattle.rules.specs.OwnSteps.{Own, answer_of, taken, own_in}
 use Rattle.rules.specs.Refusals.{sizes_check, variable_of}
-use Rattle.rules.specs.Runs.{State, Event, begin, step, entry, after, fresh, run}
+use Rattle.rules.specs.Runs.{State, Event, begin, step, after, fresh, run}
 use Rattle.rules.specs.Sizes.{bits}
-use Rattle.rules.specs.Types.{Reply, Begun, Ok, Busy, Value, Witness, Yes, No, Err, Answered, Board, Call, Process, Settings}
+use Rattle.rules.specs.Types.{Reply, Ok, Err, Answered, Board, Call, Process, Settings}
 use Rattle.rules.proofs.Changes.Places.{variable_at}
 use Rattle.rules.proofs.Tests.{never}
 use Rattle.rules.proofs.Demand3.Called.{told, watched}
@@ -24,7 +24,6 @@ use Rattle.rules.proofs.Demand3.Means.{BoardMeans}
 use Rattle.rules.proofs.Demand3.Fresh.{fresh_means}
 use Rattle.rules.proofs.Demand3.Invariant.Kinds.{Counts, width}
 use Rattle.rules.proofs.Demand3.Invariant.Whole.{State as Machine, Inv, fresh_state, fresh_inv}
-use Rattle.rules.proofs.Demand3.Link.Stands.{at_place}
 use Rattle.rules.proofs.Calls.Told.{place_of, sequence_at, note_from, watch_from}
 use Rattle.rules.proofs.Demand3.Runs.{begin_cases, step_cases, BoardOf, state_of, as_parts, fresh_is, run_shaped}
 

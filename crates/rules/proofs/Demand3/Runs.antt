@@ -14,7 +14,7 @@ use Rattle.rules.specs.Processes.{is_idle, nobody, process_at, put_process, refu
 use Rattle.rules.specs.Refusals.{sizes_check, begin_check, step_check}
 use Rattle.rules.specs.Runs.{State, Event, begin, step, given, fresh, run}
 use Rattle.rules.specs.Steps.{beginning, process_step}
-use Rattle.rules.specs.Types.{Answered, Board, Call, Ok, Err, Idle, Process, Result, Refusal, Settings}
+use Rattle.rules.specs.Types.{Answered, Board, Call, Ok, Err, Idle, Process, Refusal, Settings}
 use Rattle.rules.specs.Refusals.{Check}
 use Rattle.rules.proofs.Tests.{never}
 use Rattle.rules.proofs.Refusals.Checked.{stands, Accepted, Beginning, step_accepted, step_fine, begin_accepted}

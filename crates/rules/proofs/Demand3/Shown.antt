@@ -17,7 +17,7 @@ use Rattle.rules.specs.Runs.{Event, step, run}
 use Rattle.rules.specs.Sizes.{bits}
 use Rattle.rules.proofs.Cases.Computing.{schedule}
 use Rattle.rules.specs.Schedules.{p7_events, p8_events, value_of_one}
-use Rattle.rules.specs.Types.{Reply, Value, Ok, Witness, Yes, Call, Load, Store, Settings}
+use Rattle.rules.specs.Types.{Reply, Ok, Witness, Yes, Call, Load, Store, Settings}
 
 -- with one variable the premise is a bound on the first
 one_variable : (t : Turn) → t.settings.t ≡ 1 → (n : ℕ) → (seen_in (start t) (step t.me ∷ t.events) 0).total ≤ n → AtMost n t

@@ -11,7 +11,7 @@ use Rattle.rules.specs.Processes.{is_idle, nobody, process_at, put_process, refu
 use Rattle.rules.specs.Refusals.{refuse_if, process_check, step_check}
 use Rattle.rules.specs.Steps.{step_from, process_step}
 use Rattle.rules.specs.declared.Board.{Board}
-use Rattle.std.specs.Prelude.{Ok, Err}
+use Rattle.std.specs.Prelude.{Ok}
 use Rattle.rules.specs.declared.Place.{Place}
 use Rattle.rules.specs.declared.Place.TheVariants.{Idle, LoadReadsWord, ValidateReadsWord, StoreSwapsWord, LoadReadsHeader, ValidateReadsHeader, StoreReadsHeader, StoreAnnounces, StoreSwapsHeader, ReadsSegment, ReadsAnnounced, SwapsSegment, ReadsSegmentAgain, ReadsHeader}
 use Rattle.rules.specs.declared.Process.{Process}

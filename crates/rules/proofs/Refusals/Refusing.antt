@@ -12,7 +12,7 @@ use Rattle.rules.specs.Processes.{process_at}
 use Rattle.rules.specs.Refusals.{sizes_check, process_check, begin_check, step_check}
 use Rattle.rules.specs.Sizes.{settings_fit}
 use Rattle.rules.specs.Steps.{process_step}
-use Rattle.rules.specs.Types.{Reply, Begun, Board, Call, Settings, Result, Ok, Err, Refusal, SettingOutsideSizes}
+use Rattle.rules.specs.Types.{Reply, Begun, Board, Call, Settings, Ok, Err, Refusal, SettingOutsideSizes}
 use Rattle.rules.specs.Refusals.{Check}
 use Rattle.rules.proofs.Refusals.Checked.{step_accepted}
 use Rattle.rules.proofs.Changes.Frame.{framed}
