@@ -30,15 +30,25 @@ more_last n a g l e =
     let z : length (a ++ ((48 + n % 10) ∷ [])) ≡ suc (length a) = omega (arith, length-append a ((48 + n % 10) ∷ [])) in
     rw z (ap (λ (b : List ℕ). b ++ ((48 + n % 10) ∷ [])) e)
 
-pub decimal_last : (n : ℕ) → n < 2 ^ 64 → AllLast n (decimal n)
+decimal_last : (n : ℕ) → n < 2 ^ 64 → AllLast n (decimal n)
 decimal_last n h = (by_digits AllLast one_last more_last 20 n (omega arith) (omega arith)).0
 
--- one digit is put in its place, and those before it are left to put
-pub digit_put : (out : List ℕ) (at i n d : ℕ) → 0 < i → d ≡ 48 + n % 10
-    → sets (set out (at + (i - 1)) d) at (last_digits (i - 1) (n / 10)) ≡ sets out at (last_digits i n)
-digit_put out at zero n d p e = absurd (let y : ⊥ = omega arith in y)
-digit_put out at (suc i) n d p e =
-    let less : suc i - 1 ≡ i = omega arith in
-    let l = length_last i (n / 10) in
-    let s = sets_more out (last_digits i (n / 10)) ((48 + n % 10) ∷ []) at in
-    rw (less, e) (sets_after (last_digits i (n / 10)) out at (at + i) (48 + n % 10) (omega arith) ∙ (rw l at s))
+-- before the first turn every digit is left to put
+pub digits_left : (out : List ℕ) (at count n : ℕ) → n < 2 ^ 64 → count ≡ length (decimal n)
+    → sets out at (last_digits (at + count - at) n) ≡ sets out at (decimal n)
+digits_left out at count n h e =
+    let k : at + count - at ≡ length (decimal n) = omega arith in
+    rw k (ap (sets out at) (sym (decimal_last n h)))
+
+-- the last digit is put in its place, and those before it are left to put
+last_put : (out : List ℕ) (at k i n : ℕ) → i ≡ at + k
+    → sets (set out i (48 + n % 10)) at (last_digits k (n / 10)) ≡ sets out at (last_digits (suc k) n)
+last_put out at k i n e =
+    let before = last_digits k (n / 10) in
+    let l = length_last k (n / 10) in
+    let s = sets_more out before ((48 + n % 10) ∷ []) at in
+    rw e (sets_after before out at (at + k) (48 + n % 10) (omega arith) ∙ (rw l at s))
+
+pub digit_put : (out : List ℕ) (at i n : ℕ) → at < i
+    → sets (set out (i - 1) (48 + n % 10)) at (last_digits (i - 1 - at) (n / 10)) ≡ sets out at (last_digits (i - at) n)
+digit_put out at i n p = let e : i - at ≡ suc (i - 1 - at) = omega arith in rw e (last_put out at (i - 1 - at) (i - 1) n (omega arith))

@@ -1,20 +1,22 @@
 -- Laws of bytes put into a list: byte by byte, and bytes after bytes. Assumes nothing.
-use mathlib.Core.Path.{◌≡◌, refl, ap, ◌∙◌}
+use mathlib.Core.Path.{◌≡◌, refl, ap, sym, ◌∙◌}
 use mathlib.Core.List.{List, [], ◌∷◌, ◌++◌}
-use Prim.Native.Nat.{ℕ, suc, ◌+◌, ◌<◌, ◌≤◌}
-use native.Mathlib.Numerals.{add-one}
+use Prim.Native.Nat.{ℕ, suc, ◌+◌, ◌≤◌}
 use native.Mathlib.Omega.{arith}
-use lib.ListN.{length, drop, get_or, set, drop_of_length-le, length-append}
-use lib.Seq.{sets, drop-cons, set_comm}
+use lib.ListN.{length, set, length-append}
+use lib.Seq.{sets, set_comm}
+use borrow.Rule.Slice.PartMut.{put_mid}
+use Rattle.std.proofs.Common.{take, append_assoc}
+use Rattle.std.proofs.lemmas.List.Edits.{sets-eq, paste_all}
+use Rattle.std.proofs.lemmas.Slice.{put_mid-paste}
 use Rattle.writing.specs.Put.{Put}
 
--- one byte more of `s` is put
-pub sets_step : (out : List ℕ) (k : ℕ) (s : List ℕ) (i : ℕ) → i < length s
-    → sets out k (drop i s) ≡ sets (set out k (get_or s i 0)) (k + 1) (drop (i + 1) s)
-sets_step out k s i h = rw (drop-cons s i 0 h, add-one k, add-one i) refl
-
-pub sets_end : (out : List ℕ) (k : ℕ) (s : List ℕ) (i : ℕ) → length s ≤ i → sets out k (drop i s) ≡ out
-sets_end out k s i h = rw (drop_of_length-le s)
+-- bytes copied over a part of the list as long as they are
+pub sets_at_once : (out : List ℕ) (at : ℕ) (bytes : List ℕ) (room : ℕ) (copied : List ℕ) → copied ≡ bytes → length bytes ≡ room
+    → at + length bytes ≤ length out → put_mid at room out copied ≡ sets out at bytes
+sets_at_once out at bytes room copied e n h =
+    put_mid-paste at room out copied bytes (length bytes) e n refl
+    ∙ (paste_all out at bytes (length bytes) refl ∙ sym (sets-eq bytes out at h ∙ append_assoc (take at out) bytes _))
 
 pub sets_more : (l a b : List ℕ) (i : ℕ) → sets (sets l i a) (i + length a) b ≡ sets l i (a ++ b)
 sets_more l [] b i = let e : i + 0 ≡ i = omega arith in rw e refl

@@ -6,40 +6,27 @@ ghost use Rattle.writing.specs.Put.{Put};
 
 use super::bytes::put;
 
-// The number of digits: one, and one more for each time that a tenth is left.
+// The number of digits: one, and one more for each power of ten from 10 on that the number reaches.
+#[tactic(auto, using(crate::proofs::Counting::counted))]
 fn digit_count(x: u64) -> usize
     ensures { result ≡ length (decimal x) }
 {
-    let mut count: usize = 1;
-    let mut left = x;
-    while left > 9 {
-        left /= 10;
-        count += 1;
-    }
-    count
-}
-
-fn digit(d: u64) -> u8
-    requires { d < 10 }
-    ensures { result ≡ 48 + d }
-{
-    b'0' + d as u8
+    x.checked_ilog10().unwrap_or(0) as usize + 1
 }
 
 // The digits are put from the last to the first.
+#[tactic(auto, using(crate::proofs::Digits::digits_left, crate::proofs::Digits::digit_put))]
 pub fn put_decimal(x: u64, out: &mut [u8], at: usize) -> usize
     requires { at + length (decimal x) ≤ length out.old }
     ensures { Put out.old at (decimal x) out.new result }
 {
-    let count = digit_count(x);
-    let mut i = count;
+    let end = at + digit_count(x);
     let mut left = x;
-    while i > 0 {
-        i -= 1;
-        out[at + i] = digit(left % 10);
+    for i in (at..end).rev() {
+        out[i] = b'0' + (left % 10) as u8;
         left /= 10;
     }
-    at + count
+    end
 }
 
 // A number with the comma before it.

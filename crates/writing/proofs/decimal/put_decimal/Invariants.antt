@@ -1,20 +1,11 @@
 -- `put_decimal` puts the last digit of what is left a turn, each in its place: the digits left to put, put before those that
 -- were, give the same list at every turn.
 use mathlib.Core.Path.{◌≡◌}
-use Prim.Native.Nat.{◌≤◌, ◌+◌}
-use lib.ListN.{length}
+use Prim.Native.Nat.{◌-◌}
 use lib.Seq.{sets}
 use Rattle.fields.specs.Decimal.{decimal}
 use Rattle.writing.proofs.Digits.{last_digits}
 use Rattle.writing.proofs.decimal.put_decimal.Given as goal
 
 abbrev pub invariant-loop-i : goal.invariant-loop-i
-invariant-loop-i l =
-    (l.i ≤ l.count)
-    × (l.count ≡ length (decimal l.x))
-    × (l.at + l.count ≤ length l.initial.out)
-    × (length l.out ≡ length l.initial.out)
-    × (sets l.out l.at (last_digits l.i l.left) ≡ sets l.initial.out l.at (decimal l.x))
-
-abbrev pub decreases-loop-i : goal.decreases-loop-i
-decreases-loop-i l = l.i
+invariant-loop-i l = sets l.out l.at (last_digits (l.i - l.at) l.left) ≡ sets l.initial.out l.at (decimal l.x)
