@@ -1,8 +1,8 @@
--- Laws of `specs/Spans.antt`: where the loops that look for commas stand, that a span lies within its record, and that the bytes
+-- Laws of `specs/Spans.antt`: where the loop that looks for commas stands, that a span lies within its record, and that the bytes
 -- of a field's span are the field. Assumes nothing.
 use Prim.Native.Nat.{ℕ, zero, suc, ◌+◌, ◌-◌, ◌<◌, ◌≤◌}
 use mathlib.Core.Path.{◌≡◌, refl, ap, sym, ◌∙◌}
-use mathlib.Core.Bool.{Bool, true, false, cond}
+use mathlib.Core.Bool.{Bool, true, false, cond, not}
 use mathlib.Core.List.{List, [], ◌∷◌}
 use native.Mathlib.Numerals.{add-one}
 use native.Mathlib.Omega.{arith}
@@ -10,6 +10,8 @@ use lib.Dec.{eqb}
 use lib.ListN.{length, take, drop, get_or, drop_of_length-le, take-append-drop, length-drop}
 use lib.Seq.{length-take-le, take-append-le, drop-append-le}
 use borrow.Author.Tests.{eq-eqb, ne_eqb}
+use Rattle.std.specs.List.{prefix_len}
+use Rattle.std.proofs.lemmas.Slice.{between_to_end}
 use Rattle.fields.specs.Form.{closed, body_length, body_of}
 use Rattle.fields.specs.Fields.{up_to_comma, past_comma, part_of, field_of}
 use Rattle.fields.specs.Spans.{start_of, to_comma, end_from, span_of, body_span, bytes_in}
@@ -32,22 +34,12 @@ module _ (s : List ℕ) (i : ℕ) (h : i < length s) where
   start_other zero n e = absurd (n refl)
   start_other (suc k) n e = rw drop_step (simp (ne_eqb _ _ e, add-one))
 
-  pub comma_here : get_or s i 0 ≡ 44 → to_comma (drop i s) ≡ 0
-  unfolding to_comma
-  comma_here e = rw drop_step (simp (eq-eqb _ _ e))
+pub start_end : (s : List ℕ) (i k : ℕ) → length s ≤ i → start_of (drop i s) k ≡ 0
+unfolding start_of
+start_end s i k h = rw (drop_of_length-le s)
 
-  pub comma_later : (get_or s i 0 ≡ 44 → ⊥) → to_comma (drop i s) ≡ to_comma (drop (i + 1) s) + 1
-  unfolding to_comma
-  comma_later e = rw drop_step (simp (ne_eqb _ _ e, add-one))
-
-module _ (s : List ℕ) (i : ℕ) (h : length s ≤ i) where
-  pub start_end : (k : ℕ) → start_of (drop i s) k ≡ 0
-  unfolding start_of
-  start_end k = rw (drop_of_length-le s)
-
-  pub comma_end : to_comma (drop i s) ≡ 0
-  unfolding to_comma
-  comma_end = rw (drop_of_length-le s)
+-- what the loop that looks for the k-th comma learns at each place, and at the end
+pub ruleset starts = (start_zero, start_comma, start_other, start_end)
 
 -- nothing past the list
 pub start_within : (s : List ℕ) (k : ℕ) → start_of s k ≤ length s
@@ -55,6 +47,16 @@ unfolding start_of
 start_within [] k = omega arith
 start_within (x ∷ xs) zero = omega arith
 start_within (x ∷ xs) (suc k) = let h = start_within xs (cond (eqb x 44) k (suc k)) in omega arith
+
+-- in the words of the library's iterators
+pub to_comma_front : (s : List ℕ) → prefix_len (λ x. not (eqb x 44)) s ≡ to_comma s
+unfolding to_comma
+to_comma_front [] = refl
+to_comma_front (x ∷ xs) = by_test (eqb x 44) (to_comma_front xs)
+  where
+    by_test : (b : Bool) → prefix_len (λ x. not (eqb x 44)) xs ≡ to_comma xs → cond (not b) (1 + prefix_len (λ x. not (eqb x 44)) xs) 0 ≡ cond b 0 (suc (to_comma xs))
+    by_test true e = refl
+    by_test false e = omega arith
 
 to_length : (s : List ℕ) → to_comma s ≡ length (up_to_comma s)
 unfolding to_comma up_to_comma
@@ -65,7 +67,7 @@ to_length (x ∷ xs) = by_test (eqb x 44) (to_length xs)
     by_test true e = refl
     by_test false e = ap suc e
 
-to_within : (s : List ℕ) → to_comma s ≤ length s
+pub to_within : (s : List ℕ) → to_comma s ≤ length s
 unfolding to_comma
 to_within [] = omega arith
 to_within (x ∷ xs) = by_test (eqb x 44) (to_within xs)
@@ -96,6 +98,9 @@ body_within s = by_test (closed s)
     by_test : (b : Bool) → cond b (length s - 2) (length s) ≤ length s
     by_test true = omega arith
     by_test false = omega arith
+
+pub body_taken : (s : List ℕ) → length (take (body_length s) s) ≡ body_length s
+body_taken s = length-take-le (body_length s) s (body_within s)
 
 -- a field's span runs forward, within its record
 module _ (s : List ℕ) (k : ℕ) {span : Span} (e : span ≡ span_of s k) where
@@ -135,3 +140,15 @@ body_bytes s = let e : body_length s - 0 ≡ body_length s = omega arith in ap (
 -- the same, for a proof that has the field
 pub field_is_bytes : (s : List ℕ) (k : ℕ) → field_of s k ≡ bytes_in (span_of s k) s
 field_is_bytes s k = sym (span_bytes s k)
+
+-- where part k of the body starts, and how many bytes it has, are the span of field k
+pub span_made : (s inside : List ℕ) (k start count : ℕ) → inside ≡ bytes_in (body_span s) s → start ≡ start_of inside k
+    → count ≡ to_comma (take (length inside - start) (drop start inside)) → ◌≡◌ {A = Span} (record { start = start; end = start + count }) (span_of s k)
+unfolding span_of
+span_made s inside k start count b f e =
+    let whole : inside ≡ body_of s = b ∙ body_bytes s in
+    let n : count ≡ to_comma (drop start inside) = e ∙ ap to_comma (between_to_end inside start (length inside) (omega arith)) in
+    rw (n, f, whole) refl
+
+-- a field's span is made, and no index leaves the body
+pub ruleset made = (start_within, to_within, span_made)

@@ -1,46 +1,36 @@
--- Laws of `specs/Form.antt` and `specs/Fields.antt` at a place of a list, for the loops that pass over it. Assumes nothing.
-use Prim.Native.Nat.{ℕ, zero, suc, ◌+◌, ◌<◌, ◌≤◌}
+-- Laws of `specs/Form.antt`, in the words of the library's methods on slices, and of `specs/Fields.antt`. Assumes nothing.
+use Prim.Native.Nat.{ℕ, zero, suc, ◌+◌, ◌-◌, ◌<◌, ◌≤◌}
 use mathlib.Core.Path.{◌≡◌, refl, ap}
-use mathlib.Core.Bool.{Bool, true, false, cond}
+use mathlib.Core.Bool.{Bool, true, false, cond, not, ◌&&◌}
 use mathlib.Core.List.{List, [], ◌∷◌}
 use native.Mathlib.Numerals.{add-one}
 use native.Mathlib.Omega.{arith}
 use lib.Dec.{eqb, leb}
 use lib.ListN.{length, take, drop, get_or, drop_of_length-le}
 use lib.Seq.{drop-cons}
-use borrow.Author.Tests.{eq-eqb, ne_eqb, leb-true}
-use Rattle.rules.proofs.Tests.{and_left}
+use borrow.Author.Tests.{leb-true, le-leb}
+use Rattle.std.specs.List.{list_all, count_by, ends_with}
+use Rattle.std.proofs.lemmas.List.Recursion.{is_count_by}
+use Rattle.std.proofs.lemmas.Bool.Decides.{nat_tests}
+use Rattle.rules.proofs.Tests.{and_left, and_no}
 use Rattle.fields.specs.Form.{closed, stray, no_stray, commas}
 use Rattle.fields.specs.Fields.{up_to_comma, past_comma, part_of}
 
 pub drop_step : (s : List ℕ) (i : ℕ) → i < length s → drop i s ≡ get_or s i 0 ∷ drop (i + 1) s
 drop_step s i h = rw (add-one, drop-cons s i 0)
 
-module _ (s : List ℕ) (i : ℕ) (h : i < length s) where
-  pub commas_comma : get_or s i 0 ≡ 44 → commas (drop i s) ≡ 1 + commas (drop (i + 1) s)
-  unfolding commas
-  commas_comma e = rw drop_step (simp (eq-eqb _ _ e))
+pub stray_all : (s : List ℕ) → list_all (λ x. not (stray x)) s ≡ no_stray s
+unfolding no_stray
+stray_all [] = refl
+stray_all (x ∷ xs) = ap (◌&&◌ (not (stray x))) (stray_all xs)
 
-  pub commas_other : (get_or s i 0 ≡ 44 → ⊥) → commas (drop i s) ≡ commas (drop (i + 1) s)
-  unfolding commas
-  commas_other e = rw drop_step (simp (ne_eqb _ _ e) (omega arith))
-
-  pub stray_here : stray (get_or s i 0) ≡ true → no_stray (drop i s) ≡ false
-  unfolding no_stray
-  stray_here e = rw drop_step (rw e refl)
-
-  pub stray_not : stray (get_or s i 0) ≡ false → no_stray (drop i s) ≡ no_stray (drop (i + 1) s)
-  unfolding no_stray
-  stray_not e = rw drop_step (rw e refl)
-
-module _ (s : List ℕ) (i : ℕ) (h : length s ≤ i) where
-  pub commas_end : commas (drop i s) ≡ 0
-  unfolding commas
-  commas_end = rw (drop_of_length-le s)
-
-  pub stray_end : no_stray (drop i s) ≡ true
-  unfolding no_stray
-  stray_end = rw (drop_of_length-le s)
+pub commas_count : (s : List ℕ) → commas s ≡ count_by (λ x. eqb x 44) s
+unfolding commas
+commas_count s = is_count_by commas (λ x. eqb x 44) refl (λ x xs. by_test (eqb x 44) (commas xs)) s
+  where
+    by_test : (b : Bool) (n : ℕ) → cond b 1 0 + n ≡ cond b (1 + n) n
+    by_test true n = refl
+    by_test false n = omega arith
 
 pub part_nil : (k : ℕ) → part_of [] k ≡ []
 unfolding part_of past_comma up_to_comma
@@ -57,6 +47,26 @@ up_to_take (x ∷ xs) = cut (eqb x 44) (up_to_take xs)
         → take (length (cond b [] (x ∷ up_to_comma xs))) (x ∷ xs) ≡ cond b [] (x ∷ up_to_comma xs)
     cut true e = refl
     cut false e = ap (λ l. x ∷ l) e
+
+last_two : (s : List ℕ) → 2 ≤ length s → ends_with eqb s (13 ∷ 10 ∷ []) ≡ closed s
+unfolding closed
+last_two s h =
+    let n = length s - 2 in
+    let after : n + 1 ≡ length s - 1 = omega arith in
+    let first : drop n s ≡ get_or s n 0 ∷ drop (n + 1) s = drop_step s n (omega arith) in
+    let second : drop (n + 1) s ≡ get_or s (n + 1) 0 ∷ drop (n + 1 + 1) s = drop_step s (n + 1) (omega arith) in
+    let none : drop (n + 1 + 1) s ≡ [] = drop_of_length-le s (omega arith) in
+    rw (first, second, none, after, le-leb 2 (length s) h) (pair (get_or s n 0) (get_or s (length s - 1) 0))
+  where
+    pair : (a b : ℕ) → eqb 13 a && (eqb 10 b && true) ≡ eqb a 13 && eqb b 10
+    pair a b = grind (arith, nat_tests)
+
+-- a record is closed exactly if it ends with the pair
+pub closed_ends : (s : List ℕ) → ends_with eqb s (13 ∷ 10 ∷ []) ≡ closed s
+unfolding closed
+closed_ends [] = refl
+closed_ends (x ∷ []) = and_no (eqb 13 x) false refl
+closed_ends (x ∷ y ∷ r) = last_two (x ∷ y ∷ r) (omega arith)
 
 -- a record that ends in the pair has two bytes
 pub closed_two : (s : List ℕ) → closed s ≡ true → 2 ≤ length s

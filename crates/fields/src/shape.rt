@@ -1,5 +1,5 @@
 // The form of a record (refusal 10), and its body: the record without the pair that closes it.
-ghost use Rattle.std.specs.Prelude.{◌≡◌, ◌&&◌, ◌+◌, eqb};
+ghost use Rattle.std.specs.Prelude.{◌≡◌, ◌&&◌, ◌+◌, ◌==◌};
 ghost use Rattle.fields.specs.Form.{closed, body_length, stray, no_stray, commas, in_form};
 ghost use Rattle.fields.specs.Spans.{body_span, PartAt};
 
@@ -10,20 +10,15 @@ const MOST_BYTES: usize = 512;
 pub(crate) const FIELDS: usize = 7;
 
 // Whether a record ends in the closing pair.
+#[tactic(auto, using(crate::proofs::Splits::closed_ends))]
 fn is_closed(bytes: &[u8]) -> bool
     ensures { result ≡ closed bytes.now }
 {
-    let size = bytes.len();
-    if size < 2 {
-        return false;
-    }
-    if bytes[size - 2] != b'\r' {
-        return false;
-    }
-    bytes[size - 1] == b'\n'
+    bytes.ends_with(b"\r\n")
 }
 
 // Where the body ends; it starts with the record.
+#[tactic(auto, using(crate::proofs::Splits::closed_two), unfolding(crate::specs::Form::body_length))]
 pub fn body_length(bytes: &[u8]) -> usize
     ensures { result ≡ body_length bytes.now }
 {
@@ -35,51 +30,32 @@ pub fn body_length(bytes: &[u8]) -> usize
 }
 
 // A record without its closing pair.
+#[tactic(auto, using(crate::proofs::FieldSpans::body_taken))]
 pub fn body(bytes: &[u8]) -> &[u8]
     ensures { PartAt (body_span bytes.now) bytes.entry result }
 {
-    let size = body_length(bytes);
-    &bytes[0..size]
+    &bytes[..body_length(bytes)]
 }
 
 // What no body may hold: a quote mark, a CR, an LF.
 fn is_stray(byte: u8) -> bool
     ensures { result ≡ stray byte }
 {
-    if byte == b'"' {
-        return true;
-    }
-    if byte == b'\r' {
-        return true;
-    }
-    byte == b'\n'
+    matches!(byte, b'"' | b'\r' | b'\n')
 }
 
 // Whether a body holds nothing stray and one comma fewer than fields.
 fn body_in_form(inside: &[u8]) -> bool
-    ensures { result ≡ no_stray inside.now && eqb (commas inside.now + 1) 7 }
+    ensures { result ≡ no_stray inside.now && (commas inside.now + 1 == 7) }
 {
-    let mut found: usize = 0;
-    let mut i: usize = 0;
-    while i < inside.len() {
-        let byte = inside[i];
-        if is_stray(byte) {
-            return false;
-        }
-        if byte == b',' {
-            found += 1;
-        }
-        i += 1;
-    }
-    found + 1 == FIELDS
+    inside.iter().all(|byte| !is_stray(*byte))
+        && inside.iter().filter(|byte| **byte == b',').count() + 1 == FIELDS
 }
 
 // Whether a record escapes refusal 10.
+#[tactic(auto, using(crate::proofs::FieldSpans::body_bytes), unfolding(crate::specs::Form::in_form))]
 pub fn in_form(bytes: &[u8]) -> bool
     ensures { result ≡ in_form bytes.now }
 {
-    if bytes.len() > MOST_BYTES {
-        return false;
-    }
-    body_in_form(body(bytes))
+    bytes.len() <= MOST_BYTES && body_in_form(body(bytes))
 }

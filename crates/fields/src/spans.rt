@@ -1,57 +1,47 @@
 // Where the fields of a record lie, told by value: from which byte of it to which.
 ghost use Rattle.std.specs.Prelude.{◌≡◌};
-ghost use Rattle.fields.specs.Spans.{start_of, end_from, span_of};
+ghost use Rattle.fields.specs.Spans.{start_of, to_comma, span_of};
 
 use super::shape::body;
 
 // From byte `start` on, to the one before byte `end`.
-#[derive(Clone, Copy)]
+#[derive(Clone, Copy, PartialEq, Eq, Debug)]
 pub struct Span {
     pub start: usize,
     pub end: usize,
 }
 
 // Where part k starts: past the k-th comma, or at the end.
+#[tactic(auto, using(crate::proofs::FieldSpans::starts))]
 fn start_of(inside: &[u8], k: usize) -> usize
     ensures { result ≡ start_of inside.now k }
 {
-    let mut i: usize = 0;
     let mut left = k;
-    while i < inside.len() {
+    for (i, byte) in inside.iter().enumerate() {
         if left == 0 {
             return i;
         }
-        if inside[i] == b',' {
+        if *byte == b',' {
             left -= 1;
         }
-        i += 1;
     }
-    i
+    inside.len()
 }
 
-// Where the part that starts at `start` ends: at the next comma, or at the end.
-fn end_of(inside: &[u8], start: usize) -> usize
-    ensures { result ≡ end_from inside.now start }
+// How many bytes stand before the first comma: all, where there is none.
+fn to_comma(rest: &[u8]) -> usize
+    ensures { result ≡ to_comma rest.now }
 {
-    let mut i = start;
-    while i < inside.len() {
-        if inside[i] == b',' {
-            return i;
-        }
-        i += 1;
-    }
-    i
+    rest.iter().take_while(|byte| **byte != b',').count()
 }
 
 // Where field k lies, from 0.
+#[tactic(auto, using(crate::proofs::FieldSpans::made))]
 pub fn field_span(bytes: &[u8], k: usize) -> Span
     ensures { result ≡ span_of bytes.now k }
 {
     let inside = body(bytes);
     let start = start_of(inside, k);
-    let end = end_of(inside, start);
-    Span {
-        start: start,
-        end: end,
-    }
+    let end = start + to_comma(&inside[start..]);
+    Span { start, end }
 }

@@ -1,22 +1,21 @@
 -- `blank_from` meets its contract. Assumes nothing.
-use mathlib.Core.Path.{ap, sym, ◌∙◌}
-use native.Mathlib.Omega.{arith}
-use lib.ListN.{length}
-use Rattle.fields.proofs.BlankFields.{blank_here, blank_not, blank_end}
+use Prim.Native.Nat.{◌-◌}
+use mathlib.Core.Path.{◌≡◌, refl, sym, ◌∙◌}
+use Rattle.std.specs.List.{list_all, range_with_len}
+use Rattle.std.proofs.Common.{rules, tests, eqb, length}
+use Rattle.std.proofs.lemmas.Iterator.{YieldsList-from_range}
+use Rattle.std.proofs.lemmas.Iterator.Search.{all_from_yields_List}
+use Rattle.fields.specs.Fields.{field_of}
+use Rattle.fields.specs.Blanks.{blank_from}
+use Rattle.fields.proofs.BlankFields.{blanks_all}
 use Rattle.fields.proofs.FieldSpans.{span_bytes}
 use Rattle.fields.proofs.parts.blank_from.Goals as goal
 
-pub returns-then-part-ne0 : goal.returns-then-part-ne0
-returns-then-part-ne0 c =
-    let s = c.args.bytes.now in
-    let told = c.field-part.ensures.bytes ∙ span_bytes s c.loop-k.k in
-    sym (sym c.loop-k.invariant ∙ blank_not s c.loop-k.k (omega arith) (λ e. c.if-part-ne0.true (ap length told ∙ e)))
-
-pub loop-k-preserved : goal.loop-k-preserved
-loop-k-preserved c =
-    let s = c.args.bytes.now in
-    let told = c.field-part.ensures.bytes ∙ span_bytes s c.loop-k.k in
-    sym (blank_here s c.loop-k.k (omega arith) (sym (ap length told) ∙ c.if-part-ne0.false)) ∙ c.loop-k.invariant
-
 pub returns : goal.returns
-returns c = sym (sym c.loop-k.invariant ∙ blank_end c.args.bytes.now c.loop-k.k (omega arith))
+unfolding blank_from
+returns c =
+    let s = c.args.bytes.now in
+    let k = c.args.from in
+    let n : c.all.result ≡ list_all (λ j. eqb (length (field_of s j)) 0) (range_with_len k (7 - k)) =
+    all_from_yields_List (λ j. eqb (length (field_of s j)) 0) _ _ c.all.result c.all.ensures.ran (YieldsList-from_range k 7 (7 - k) refl refl) (λ x b q e. search (rules, tests, span_bytes)) in
+    n ∙ sym (blanks_all s k (7 - k))

@@ -1,38 +1,27 @@
--- `body_in_form` meets its contract. Assumes nothing.
-use Prim.Native.Nat.{◌≤◌, ◌<◌}
+-- `body_in_form` meets its contract: what the library's iterators answer is what the definition says. Assumes nothing.
 use mathlib.Core.Path.{◌≡◌, sym, ◌∙◌}
-use native.Mathlib.Omega.{arith}
-use mathlib.Core.Bool.{true, false}
-use lib.ListN.{length}
-use Rattle.fields.specs.Form.{no_stray, commas}
-use Rattle.fields.proofs.Splits.{commas_comma, commas_other, commas_end, stray_here, stray_not, stray_end}
+use mathlib.Core.Bool.{not}
+use Rattle.std.specs.List.{list_all, count_by}
+use Rattle.std.proofs.Common.{rules, tests, eqb}
+use Rattle.std.proofs.lemmas.Iterator.{YieldsList-from_slice}
+use Rattle.std.proofs.lemmas.Iterator.Search.{all_from_yields_List}
+use Rattle.fields.specs.Form.{stray, no_stray}
+use Rattle.fields.proofs.Splits.{stray_all, commas_count}
 use Rattle.fields.proofs.shape.body_in_form.Goals as goal
-use Rattle.fields.proofs.shape.body_in_form.Goals.{then-byte-eq44, else-byte-eq44}
+use Rattle.fields.proofs.shape.body_in_form.Goals.{After-all}
 
-pub returns-then-is_stray : goal.returns-then-is_stray
-returns-then-is_stray c =
+clean : (c : After-all) → no_stray c.args.inside.now ≡ c.all.result
+clean c =
     let s = c.args.inside.now in
-    let h : c.loop-i.i < length s = omega arith in
-    let e = stray_here s c.loop-i.i h (sym c.is_stray.ensures ∙ c.if-is_stray.true) in
-    let unclean : no_stray s ≡ false = sym c.loop-i.invariant.2 ∙ e in
-    rw unclean
+    let all : c.all.result ≡ list_all (λ x. not (stray x)) s =
+    all_from_yields_List (λ x. not (stray x)) _ _ _ c.all.ensures.ran (YieldsList-from_slice s cc) (λ x b q k. search (rules, tests)) in
+    sym (all ∙ stray_all s)
 
-pub loop-i-preserved : goal.loop-i-preserved
-loop-i-preserved c =
+pub returns-then-all : goal.returns-then-all
+returns-then-all c =
     let s = c.args.inside.now in
-    let h : c.loop-i.i < length s = omega arith in
-    let e = stray_not s c.loop-i.i h (sym c.is_stray.ensures ∙ c.if-is_stray.false) in
-    elim c.if-byte-eq44.branch [
-      | then-byte-eq44 w ↦
-          (omega arith, omega arith, sym e ∙ c.loop-i.invariant.2, omega (arith, commas_comma s c.loop-i.i h w.if-byte-eq44.true))
-      | else-byte-eq44 w ↦
-          (omega arith, omega arith, sym e ∙ c.loop-i.invariant.2, omega (arith, commas_other s c.loop-i.i h w.if-byte-eq44.false))
-    ]
+    let found : c.count.result ≡ count_by (λ x. eqb x 44) s = search rules in
+    rw (clean (goal.at.returns-then-all c).After-all, c.if-all.true, commas_count s, found)
 
-pub returns : goal.returns
-returns c =
-    let s = c.args.inside.now in
-    let h : length s ≤ c.loop-i.i = omega arith in
-    let all : commas s ≡ c.loop-i.found = omega (arith, commas_end s c.loop-i.i h) in
-    let clean : no_stray s ≡ true = sym c.loop-i.invariant.2 ∙ stray_end s c.loop-i.i h in
-    rw (all, clean)
+pub returns-else-all : goal.returns-else-all
+returns-else-all c = rw (clean (goal.at.returns-else-all c).After-all, c.if-all.false)
