@@ -21,6 +21,10 @@ and_right false b e = cc
 pub and_both : (a b : Bool) → a ≡ true → b ≡ true → (a && b) ≡ true
 and_both a b p q = rw (p, q)
 
+pub and_no : (a b : Bool) → b ≡ false → (a && b) ≡ false
+and_no true b e = e
+and_no false b e = refl
+
 pub all_at : (test : ℕ → Bool) (i n : ℕ) → all n test ≡ true → i < n → test i ≡ true
 unfolding all
 all_at test i zero a h = absurd (not-suc-le-zero h)
