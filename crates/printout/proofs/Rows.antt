@@ -1,13 +1,9 @@
 -- Laws of a row's fields: the value fields, and how long its parts are. Assumes nothing.
-use mathlib.Core.Path.{◌≡◌, refl, ap, sym, ◌∙◌}
-use mathlib.Core.Bool.{Bool, true, false}
+use mathlib.Core.Path.{◌≡◌, refl, ap}
 use mathlib.Core.List.{List, [], ◌∷◌, ◌++◌, append_assoc}
-use Prim.Native.Nat.{ℕ, zero, suc, ◌+◌, ◌<◌, ◌≤◌, min}
+use Prim.Native.Nat.{ℕ, zero, suc, ◌+◌}
 use native.Mathlib.Omega.{arith}
-use lib.Dec.{leb}
-use lib.ListN.{length, get_or, take, length-append}
-use lib.Seq.{take_all}
-use borrow.Author.Tests.{leb-true, leb-false}
+use lib.ListN.{length, length-append}
 use Rattle.std.specs.Prelude.{slice_get}
 use Rattle.fields.specs.Decimal.{decimal}
 use Rattle.rules.specs.Text.{ascii}

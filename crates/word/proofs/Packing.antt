@@ -1,8 +1,7 @@
 -- Packing and unpacking tell document 01's numbers, and undo each other, as the rules of the entry points say them. Assumes nothing.
-use Rattle.std.proofs.Common.{◌≡◌, ℕ, ◌^◌, ◌<◌, List, Bool, true, false, cond, ◌&&◌, ltb, leb, [], ◌∷◌, sym, refl, ap, ◌∙◌, ltb-true, lt-ltb, leb-true, Result, Ok, Err}
+use Rattle.std.proofs.Common.{◌≡◌, ℕ, ◌^◌, ◌<◌, Bool, true, false, cond, ◌&&◌, ltb, leb, [], ◌∷◌, sym, refl, ap, ◌∙◌, ltb-true, lt-ltb, leb-true, Result, Ok, Err}
 use Rattle.word.proofs.Laws.{tag_word, value_word, word_parts, value_lt, tag_lt}
 use Rattle.word.specs.Packing.{pack_rule, unpack_rule, packed_told, unpacked_told}
-use Rattle.word.specs.Refusals.{told as told_by, told_number}
 use Rattle.word.specs.Statements.{PackingTold, NumberTold, PackingUndone}
 use Rattle.word.specs.Word.{bits_fit, tag_limit, value_limit, word, tag_of, value_of}
 use Rattle.word.specs.declared.Parts.{Parts}

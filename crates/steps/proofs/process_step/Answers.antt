@@ -1,13 +1,12 @@
 -- `process_step` meets its contract: each place has its function, which may be called there, and a step is that of its
 -- place. Assumes nothing.
-use mathlib.Core.Path.{◌≡◌, refl, ap}
+use mathlib.Core.Path.{◌≡◌, refl}
 use mathlib.Core.Bool.{true}
 use Prim.Native.Nat.{ℕ, ◌≤◌, ◌<◌}
 use borrow.Author.Rules.{rules}
 use Rattle.rules.specs.Bounds.{Sized}
 use Rattle.rules.specs.GoodForm.{process_fits}
 use Rattle.rules.specs.Sizes.{words_used}
-use Rattle.rules.specs.declared.Answered.{Answered}
 use Rattle.rules.specs.declared.Process.{Process}
 use Rattle.rules.specs.declared.Settings.{Settings}
 use Rattle.steps.proofs.Places as places
