@@ -44,12 +44,22 @@ fn is_stray(byte: u8) -> bool
     matches!(byte, b'"' | b'\r' | b'\n')
 }
 
-// Whether a body holds nothing stray and one comma fewer than fields.
+// Whether a body holds nothing stray and one comma fewer than fields. In one pass: `all` and `filter` with `count` make
+// two, and every record of a run is looked at, which took measurably longer.
+#[tactic(auto, using(crate::proofs::Splits::stray_at))]
 fn body_in_form(inside: &[u8]) -> bool
     ensures { result ≡ no_stray inside.now && (commas inside.now + 1 == 7) }
 {
-    inside.iter().all(|byte| !is_stray(*byte))
-        && inside.iter().filter(|byte| **byte == b',').count() + 1 == FIELDS
+    let mut found = 0;
+    for byte in inside {
+        if is_stray(*byte) {
+            return false;
+        }
+        if *byte == b',' {
+            found += 1;
+        }
+    }
+    found + 1 == FIELDS
 }
 
 // Whether a record escapes refusal 10.

@@ -11,7 +11,8 @@ pub struct Span {
     pub end: usize,
 }
 
-// Where part k starts: past the k-th comma, or at the end.
+// Where part k starts: past the k-th comma, or at the end. Byte by byte: from comma to comma by `to_comma` took measurably
+// longer on schedules, whose fields are short.
 #[tactic(auto, using(crate::proofs::FieldSpans::starts))]
 fn start_of(inside: &[u8], k: usize) -> usize
     ensures { result ≡ start_of inside.now k }
