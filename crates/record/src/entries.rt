@@ -1,6 +1,8 @@
 // The later records of a schedule: process, act, variable, four values. A step has only the first two; LL and VL the
 // first three; SC the first W values too.
 ghost use Rattle.std.specs.Prelude.{◌≡◌, ◌≤◌, min};
+ghost use Rattle.fields.specs.Fields.{field_of};
+ghost use Rattle.fields.specs.Number.{number_of};
 ghost use Rattle.record.specs.Entries.{values_read, step_of, call_of, rest_of, entry_in, schedule_of};
 
 use super::Act;
@@ -70,20 +72,23 @@ fn read_call(bytes: &[u8], process: usize, call: Call, count: usize) -> Option<E
     })
 }
 
+fn variable_in(bytes: &[u8]) -> Option<usize>
+    ensures { result ≡ number_of (field_of bytes.now 2) }
+{
+    Some(number_at(bytes, 2)? as usize)
+}
+
 // What the fields after the act say.
 fn read_rest(bytes: &[u8], act: Act, process: usize, w: usize) -> Option<Entry>
     ensures { result ≡ rest_of bytes.now act process w }
 {
-    let variable = number_at(bytes, 2);
     match act {
-        Act::Load => read_call(bytes, process, Call::Load(variable? as usize), 0),
-        Act::Validate => read_call(bytes, process, Call::Validate(variable? as usize), 0),
-        Act::Store => read_call(
-            bytes,
-            process,
-            Call::Store(variable? as usize),
-            at_most_four(w),
-        ),
+        Act::Load => read_call(bytes, process, Call::Load(variable_in(bytes)?), 0),
+        Act::Validate => read_call(bytes, process, Call::Validate(variable_in(bytes)?), 0),
+        Act::Store => {
+            let call = Call::Store(variable_in(bytes)?);
+            read_call(bytes, process, call, at_most_four(w))
+        }
         Act::Step => read_step(bytes, process),
     }
 }
