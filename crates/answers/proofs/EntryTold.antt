@@ -30,7 +30,7 @@ use Rattle.record.specs.declared.entries.Entry.TheVariants.{Begin, Step}
 use Rattle.printout.specs.Row.{row_of}
 use Rattle.printout.specs.declared.Who.TheVariants.{Process as ProcessAt}
 use Rattle.answers.specs.Moves.{slot_in, slot_of, move_of, process_row, row_by, begins, steps}
-use Rattle.answers.specs.Order.{InOrder}
+use Rattle.answers.specs.Order.{InOrder, OrderIn}
 use Rattle.answers.specs.Run.{Run, Told, event_act, state_of, numbered_row, event_told, nobodys_row, by_entry}
 use Rattle.answers.specs.declared.Stage.TheVariants.{Running}
 use Rattle.answers.proofs.OneProcess.{all_sized, one_of, none_of, begun, not_begun, took, not_took}
@@ -79,7 +79,7 @@ told_by number me act w r =
         «open» = result_ok (open_count_rule r.0.after me r.1);
         w = w;
       });
-      run = record { stage = Running; board = r.0.after; words = r.1; count = number };
+      run = record { stage = Running r.0.after; words = r.1; count = number };
     }
 
 -- the same, by the process that it moves
@@ -87,106 +87,105 @@ abbrev told_at : ℕ → Settings → ℕ → Act → Board → ℕ → Moved �
 told_at number s me act board i m =
     record {
       printed = row_of (process_row number s me act m.0);
-      run = record { stage = Running; board = put_process board i m.0.after; words = m.1; count = number };
+      run = record { stage = Running (put_process board i m.0.after); words = m.1; count = number };
     }
 
-module _ (run : Run) (o : InOrder run.board run.words) where
+module _ (board : Board) (run : Run) (o : InOrder board run.words) where
   sizes : Settings
-  sizes = run.board.settings
+  sizes = board.settings
 
-  in_range : (me : ℕ) → ltb me run.board.settings.n ≡ true → me < length run.board.processes
+  in_range : (me : ℕ) → ltb me board.settings.n ≡ true → me < length board.processes
   in_range me mine =
-      let most = (all_sized run.board run.words o).n_most in
-      omega (arith, o.form.shaped.processes, ltb-true me run.board.settings.n mine)
+      let most = (all_sized board run.words o).n_most in
+      omega (arith, o.form.shaped.processes, ltb-true me board.settings.n mine)
 
   -- an event of a process of the board
-  mine_told : (event : Event) (m : Moved) → ltb (process_of event) run.board.settings.n ≡ true
-      → entry event (state_of run) ≡ stepped run.board (process_of event) m
-      → event_told run event ≡ told_at (run.count + 1) run.board.settings (process_of event) (event_act event) run.board (process_of event) m
+  mine_told : (event : Event) (m : Moved) → ltb (process_of event) board.settings.n ≡ true
+      → entry event (state_of board run) ≡ stepped board (process_of event) m
+      → event_told board run event ≡ told_at (run.count + 1) board.settings (process_of event) (event_act event) board (process_of event) m
   unfolding event_told numbered_row
   mine_told event m mine e =
       let me = process_of event in
-      let after_order = order_after event (state_of run) o in
-      let order : InOrder (put_process run.board me m.0.after) m.1 =
+      let after_order = order_after event (state_of board run) o in
+      let order : InOrder (put_process board me m.0.after) m.1 =
       subst (λ (r : Answered Board × List ℕ). InOrder r.0.after r.1) e after_order in
-      let count = count_mine run.board me m.0.after m.1 order mine (in_range me mine) in
-      ap (told_by (run.count + 1) me (event_act event) run.board.settings.w) e
+      let count = count_mine board me m.0.after m.1 order mine (in_range me mine) in
+      ap (told_by (run.count + 1) me (event_act event) board.settings.w) e
       ∙ ap (λ (x : Option ℕ). record {
-        printed = row_of (record { number = run.count + 1; who = ProcessAt me (event_act event); answer = m.0.answer; «open» = x; w = run.board.settings.w });
-        run = record { stage = Running; board = put_process run.board me m.0.after; words = m.1; count = run.count + 1 };
-      }) (count ∙ ap (λ (t : Bool). cond t (Some (open_count m.0.after.opened run.board.settings.t)) None) (sym mine))
+        printed = row_of (record { number = run.count + 1; who = ProcessAt me (event_act event); answer = m.0.answer; «open» = x; w = board.settings.w });
+        run = record { stage = Running (put_process board me m.0.after); words = m.1; count = run.count + 1 };
+      }) (count ∙ ap (λ (t : Bool). cond t (Some (open_count m.0.after.opened board.settings.t)) None) (sym mine))
 
   -- an event of a process that the board has not
-  past_told : (event : Event) (m : Moved) → ltb (process_of event) run.board.settings.n ≡ false
-      → entry event (state_of run) ≡ stepped run.board 0 m
-      → event_told run event ≡ told_at (run.count + 1) run.board.settings (process_of event) (event_act event) run.board 0 m
+  past_told : (event : Event) (m : Moved) → ltb (process_of event) board.settings.n ≡ false
+      → entry event (state_of board run) ≡ stepped board 0 m
+      → event_told board run event ≡ told_at (run.count + 1) board.settings (process_of event) (event_act event) board 0 m
   unfolding event_told numbered_row
   past_told event m past e =
       let me = process_of event in
-      let order : InOrder (put_process run.board 0 m.0.after) m.1 =
-      subst (λ (r : Answered Board × List ℕ). InOrder r.0.after r.1) e (order_after event (state_of run) o) in
-      let count = count_past (put_process run.board 0 m.0.after) me m.1 order past in
-      ap (told_by (run.count + 1) me (event_act event) run.board.settings.w) e
+      let order : InOrder (put_process board 0 m.0.after) m.1 =
+      subst (λ (r : Answered Board × List ℕ). InOrder r.0.after r.1) e (order_after event (state_of board run) o) in
+      let count = count_past (put_process board 0 m.0.after) me m.1 order past in
+      ap (told_by (run.count + 1) me (event_act event) board.settings.w) e
       ∙ ap (λ (x : Option ℕ). record {
-        printed = row_of (record { number = run.count + 1; who = ProcessAt me (event_act event); answer = m.0.answer; «open» = x; w = run.board.settings.w });
-        run = record { stage = Running; board = put_process run.board 0 m.0.after; words = m.1; count = run.count + 1 };
-      }) (count ∙ ap (λ (t : Bool). cond t (Some (open_count m.0.after.opened run.board.settings.t)) None) (sym past))
+        printed = row_of (record { number = run.count + 1; who = ProcessAt me (event_act event); answer = m.0.answer; «open» = x; w = board.settings.w });
+        run = record { stage = Running (put_process board 0 m.0.after); words = m.1; count = run.count + 1 };
+      }) (count ∙ ap (λ (t : Bool). cond t (Some (open_count m.0.after.opened board.settings.t)) None) (sym past))
 
   -- either way, at the slot
   slot_told : (event : Event) (m : Process → Moved)
-      → (ltb (process_of event) run.board.settings.n ≡ true
-      → entry event (state_of run) ≡ stepped run.board (process_of event) (m (process_at run.board (process_of event))))
-      → (ltb (process_of event) run.board.settings.n ≡ false
-      → entry event (state_of run) ≡ stepped run.board 0 (m (process_at run.board 0)))
-      → event_told run event
-      ≡ told_at (run.count + 1) run.board.settings (process_of event) (event_act event) run.board (slot_in (process_of event) run.board.settings.n)
-      (m (process_at run.board (slot_in (process_of event) run.board.settings.n)))
-  slot_told event m mine past = go (ltb (process_of event) run.board.settings.n) refl
+      → (ltb (process_of event) board.settings.n ≡ true
+      → entry event (state_of board run) ≡ stepped board (process_of event) (m (process_at board (process_of event))))
+      → (ltb (process_of event) board.settings.n ≡ false
+      → entry event (state_of board run) ≡ stepped board 0 (m (process_at board 0)))
+      → event_told board run event
+      ≡ told_at (run.count + 1) board.settings (process_of event) (event_act event) board (slot_in (process_of event) board.settings.n)
+      (m (process_at board (slot_in (process_of event) board.settings.n)))
+  slot_told event m mine past = go (ltb (process_of event) board.settings.n) refl
     where
       at : ℕ → Told
-      at i = told_at (run.count + 1) run.board.settings (process_of event) (event_act event) run.board i (m (process_at run.board i))
+      at i = told_at (run.count + 1) board.settings (process_of event) (event_act event) board i (m (process_at board i))
 
-      go : (t : Bool) → ltb (process_of event) run.board.settings.n ≡ t → event_told run event ≡ at (cond t (process_of event) 0)
-      go true e = mine_told event (m (process_at run.board (process_of event))) e (mine e)
-      go false e = past_told event (m (process_at run.board 0)) e (past e)
+      go : (t : Bool) → ltb (process_of event) board.settings.n ≡ t → event_told board run event ≡ at (cond t (process_of event) 0)
+      go true e = mine_told event (m (process_at board (process_of event))) e (mine e)
+      go false e = past_told event (m (process_at board 0)) e (past e)
 
   abbrev pub slot : Result Entry Refusal → ℕ
-  slot asked = slot_of asked run.board.settings.n
+  slot asked = slot_of asked board.settings.n
 
   abbrev pub move : Result Entry Refusal → Moved
-  move asked = move_of run.board.settings asked (process_at run.board (slot asked)) run.words
+  move asked = move_of board.settings asked (process_at board (slot asked)) run.words
 
   abbrev pub tells : Result Entry Refusal → Told
   tells asked =
       record {
-        printed = row_of (row_by (run.count + 1) run.board.settings asked (move asked).0);
+        printed = row_of (row_by (run.count + 1) board.settings asked (move asked).0);
         run = record {
-          stage = Running;
-          board = put_process run.board (slot asked) (move asked).0.after;
+          stage = Running (put_process board (slot asked) (move asked).0.after);
           words = (move asked).1;
           count = run.count + 1;
         };
       }
 
-  pub entry_told : (asked : Result Entry Refusal) → by_entry run asked ≡ tells asked
+  pub entry_told : (asked : Result Entry Refusal) → by_entry board run asked ≡ tells asked
   entry_told (Ok (Begin me call values)) =
-      slot_told (begin me call values) (λ p. (begins run.board.settings me call values p, run.words))
-      (λ mine. begun run.board run.words o call values me mine) (λ past. not_begun run.board run.words o call values me past)
+      slot_told (begin me call values) (λ p. (begins board.settings me call values p, run.words))
+      (λ mine. begun board run.words o call values me mine) (λ past. not_begun board run.words o call values me past)
   entry_told (Ok (Step me)) =
-      slot_told (step me) (λ p. steps run.board.settings me p run.words)
-      (λ mine. took run.board run.words o me mine) (λ past. not_took run.board run.words o me past)
+      slot_told (step me) (λ p. steps board.settings me p run.words)
+      (λ mine. took board run.words o me mine) (λ past. not_took board run.words o me past)
   entry_told (Err why) =
       ap (λ (b : Board). record {
         printed = row_of (nobodys_row (run.count + 1) why);
-        run = record { stage = Running; board = b; words = run.words; count = run.count + 1 };
-      }) (sym (same_board run.board 0))
+        run = record { stage = Running b; words = run.words; count = run.count + 1 };
+      }) (sym (same_board board 0))
 
   -- and the run is in order after it
-  by_order : (asked : Result Entry Refusal) → InOrder (by_entry run asked).run.board (by_entry run asked).run.words
+  by_order : (asked : Result Entry Refusal) → OrderIn (by_entry board run asked).run.stage (by_entry board run asked).run.words
   unfolding event_told
-  by_order (Ok (Begin me call values)) = order_after (begin me call values) (state_of run) o
-  by_order (Ok (Step me)) = order_after (step me) (state_of run) o
+  by_order (Ok (Begin me call values)) = order_after (begin me call values) (state_of board run) o
+  by_order (Ok (Step me)) = order_after (step me) (state_of board run) o
   by_order (Err why) = o
 
-  pub entry_order : (asked : Result Entry Refusal) → InOrder (tells asked).run.board (tells asked).run.words
-  entry_order asked = subst (λ (t : Told). InOrder t.run.board t.run.words) (entry_told asked) (by_order asked)
+  pub entry_order : (asked : Result Entry Refusal) → OrderIn (tells asked).run.stage (tells asked).run.words
+  entry_order asked = subst (λ (t : Told). OrderIn t.run.stage t.run.words) (entry_told asked) (by_order asked)

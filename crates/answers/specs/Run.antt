@@ -3,7 +3,7 @@ use Rattle.std.specs.Prelude.{ℕ, ◌+◌, cond, List, [], ◌∷◌, ◌++◌,
 use Rattle.std.specs.Result.{result_ok}
 use Rattle.word.specs.declared.Refusal.{Refusal}
 use Rattle.word.specs.declared.Refusal.TheVariants.{TooManyRecords}
-use Rattle.rules.specs.Entry.{blank_board, set_up_rule}
+use Rattle.rules.specs.Entry.{set_up_rule}
 use Rattle.rules.specs.Runs.{State, Event, begin, step, process_of, after, event_row}
 use Rattle.rules.specs.declared.Board.{Board}
 use Rattle.rules.specs.declared.Call.{Call}
@@ -23,10 +23,9 @@ use Rattle.answers.specs.Records.{records_of}
 use Rattle.answers.specs.declared.Stage.{Stage}
 use Rattle.answers.specs.declared.Stage.TheVariants.{Waiting, Running, Over}
 
--- a run waits for its set-up, runs, or is over; it has a board, the shared words, and a count of the schedule records so far
+-- a run waits for its set-up, runs on its board, or is over; it has the shared words, and a count of the schedule records so far
 pub record Run : Type 0 where
   pub stage : Stage
-  pub board : Board
   pub words : List ℕ
   pub count : ℕ
 
@@ -37,10 +36,10 @@ pub record Told : Type 0 where
 
 -- 144 words are lent to a run
 abbrev pub beginning_run : Run
-beginning_run = record { stage = Waiting; board = blank_board; words = replicate 144 0; count = 0 }
+beginning_run = record { stage = Waiting; words = replicate 144 0; count = 0 }
 
 abbrev pub ended : Run → List ℕ → Run
-ended run words = record { stage = Over; board = run.board; words = words; count = run.count }
+ended run words = record { stage = Over; words = words; count = run.count }
 
 -- a refusal that moved no process
 abbrev pub refused_row : ℕ → Who → Refusal → Row
@@ -56,7 +55,7 @@ set_up_refused run words why = record { printed = row_of (set_up_row why); run =
 -- an accepted set-up prints no row
 abbrev pub by_set_up : Run → Result Board Refusal → List ℕ → Told
 by_set_up run (Ok board) words =
-    record { printed = []; run = record { stage = Running; board = board; words = words; count = 0 } }
+    record { printed = []; run = record { stage = Running board; words = words; count = 0 } }
 by_set_up run (Err why) words = set_up_refused run words why
 
 abbrev pub by_settings : Run → Result Settings Refusal → Told
@@ -76,8 +75,8 @@ abbrev pub event_act : Event → Act
 event_act (begin me call values) = call_act call
 event_act (step me) = TakesStep
 
-abbrev pub state_of : Run → State
-state_of run = record { board = run.board; words = run.words }
+abbrev pub state_of : Board → Run → State
+state_of board run = record { board = board; words = run.words }
 
 -- a begin or a step: the process and the act, the answer, and the open count after the record; after 4 it is blank
 unfoldable pub numbered_row : ℕ → Event → State → Row
@@ -90,15 +89,14 @@ numbered_row number event state =
       w = state.board.settings.w;
     }
 
-unfoldable pub event_told : Run → Event → Told
-event_told run event =
+unfoldable pub event_told : Board → Run → Event → Told
+event_told board run event =
     record {
-      printed = row_of (numbered_row (run.count + 1) event (state_of run));
+      printed = row_of (numbered_row (run.count + 1) event (state_of board run));
       run =
           record {
-            stage = Running;
-            board = (after event (state_of run)).board;
-            words = (after event (state_of run)).words;
+            stage = Running (after event (state_of board run)).board;
+            words = (after event (state_of board run)).words;
             count = run.count + 1;
           };
     }
@@ -108,17 +106,17 @@ abbrev pub nobodys_row : ℕ → Refusal → Row
 nobodys_row number why = refused_row number Nobody why
 
 -- a record refused 10 or 11 has its number, and the run goes on
-abbrev pub refused_told : Run → Refusal → Told
-refused_told run why =
+abbrev pub refused_told : Board → Run → Refusal → Told
+refused_told board run why =
     record {
       printed = row_of (nobodys_row (run.count + 1) why);
-      run = record { stage = Running; board = run.board; words = run.words; count = run.count + 1 };
+      run = record { stage = Running board; words = run.words; count = run.count + 1 };
     }
 
-abbrev pub by_entry : Run → Result Entry Refusal → Told
-by_entry run (Ok (Begin process call values)) = event_told run (begin process call values)
-by_entry run (Ok (Step process)) = event_told run (step process)
-by_entry run (Err why) = refused_told run why
+abbrev pub by_entry : Board → Run → Result Entry Refusal → Told
+by_entry board run (Ok (Begin process call values)) = event_told board run (begin process call values)
+by_entry board run (Ok (Step process)) = event_told board run (step process)
+by_entry board run (Err why) = refused_told board run why
 
 -- 12: a schedule record after the 1,000,000th ends the run
 abbrev pub most_records : ℕ
@@ -127,15 +125,15 @@ most_records = 1000000
 abbrev pub too_many_told : Run → Told
 too_many_told run = record { printed = row_of (nobodys_row (most_records + 1) TooManyRecords); run = ended run run.words }
 
-unfoldable pub schedule_told : Run → List ℕ → Told
-schedule_told run bytes =
+unfoldable pub schedule_told : Board → Run → List ℕ → Told
+schedule_told board run bytes =
     cond (ltb run.count most_records)
-    (by_entry run (schedule_of bytes run.board.settings.w))
+    (by_entry board run (schedule_of bytes board.settings.w))
     (too_many_told run)
 
 abbrev pub told_in : Stage → Run → List ℕ → Told
 told_in Waiting run bytes = set_up_told run bytes
-told_in Running run bytes = schedule_told run bytes
+told_in (Running board) run bytes = schedule_told board run bytes
 told_in Over run bytes = record { printed = []; run = run }
 
 unfoldable pub record_told : Run → List ℕ → Told

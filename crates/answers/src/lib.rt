@@ -18,14 +18,14 @@ use printout::put_row;
 use record::Entry;
 use rows::row_by;
 pub use rows::{nobodys_row, set_up_row};
-use rules::{Process, Settings};
+use rules::{Board, Process, Settings};
 use word::Refusal;
 
-// A run waits for its set-up, runs, or is over.
+// A run waits for its set-up, runs on its board, or is over.
 #[derive(Clone, Copy)]
 pub enum Stage {
     Waiting,
-    Running,
+    Running(Board),
     Over,
 }
 

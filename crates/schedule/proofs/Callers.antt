@@ -18,7 +18,7 @@ use Rattle.schedule.specs.WholeInput.{started}
 use Rattle.schedule.specs.declared.Session.{Session}
 use Rattle.answers.specs.declared.Stage.{Stage}
 use Rattle.answers.specs.declared.Stage.TheVariants.{Waiting, Running, Over}
-use Rattle.schedule.proofs.FedOn.{still_waits, has_room}
+use Rattle.schedule.proofs.FedOn.{has_room}
 use Rattle.schedule.proofs.Owed.{told_short}
 
 -- what the output holds lies within it
@@ -46,7 +46,7 @@ gathered_grown f byte room within = go (closes f.held byte)
 
 taken_grown : (s : Stage) (f : Feeding) (byte : ℕ) → is_full f ≡ false → Within f → Grown f (take_in s f byte)
 taken_grown Waiting f byte room within = gathered_grown f byte room within
-taken_grown Running f byte room within = gathered_grown f byte room within
+taken_grown (Running board) f byte room within = gathered_grown f byte room within
 taken_grown Over f byte room within = (within, omega arith)
 
 grown_on : (f g h : Feeding) → Grown f g → Grown g h → Grown f h
@@ -80,7 +80,7 @@ finished_grown f after e room = subst (Grown f) (sym e) (go (eqb f.held.held 0))
 
 pub start_ready : (session : Session) (line words : List ℕ) → session ≡ session_of beginning_run → length line ≡ line_length → Ready session line words
 start_ready session line words e long =
-    subst (λ (s : Session). Ready s line words) (sym e) (record { order = λ q. still_waits q; held = omega arith; long = long })
+    subst (λ (s : Session). Ready s line words) (sym e) (record { order = tt; held = omega arith; long = long })
 
 -- `start`, a line and 144 words that are 0 make the caller with which the whole-input theorem begins
 pub start_is : (session : Session) (line out out_after : List ℕ) (len : ℕ) → session ≡ session_of beginning_run

@@ -4,7 +4,6 @@ use Prim.Native.Nat.{ℕ, ◌-◌, ◌≤◌}
 use mathlib.Core.Path.{◌≡◌, refl, sym, ap, ◌∙◌, subst}
 use mathlib.Core.Bool.{Bool, true, false, cond}
 use mathlib.Core.List.{List}
-use native.Mathlib.Omega.{arith}
 use borrow.Author.Tests.{le-ltb}
 use lib.Dec.{eqb}
 use lib.ListN.{length}
@@ -43,7 +42,7 @@ module _ (session : Session) (line words out : List ℕ) (len : ℕ) (bytes : Li
 
   -- the bytes ended first
   pub fed_open : closed ≡ false
-      → (feeding (record { stage = session.stage; board = session.board; count = session.count; held = h.held; cr = h.cr }) h.line words out len, left)
+      → (feeding (record { stage = session.stage; count = session.count; held = h.held; cr = h.cr }) h.line words out len, left)
       ≡ feed_of (feeding session line words out len) bytes
   fed_open e = sym (gathered ∙ ap (λ (t : Bool). after_gathering (feeding session line words out len) (record { held = h; left = left; closed = t })) e)
 
@@ -80,7 +79,7 @@ stage_is a b s t p q =
 
 left_waiting : (run : Run) (start : Result Board Refusal) (words : List ℕ) (a : Run) → a.stage ≡ Waiting
     → same_stage a (by_set_up run start words).run ≡ false
-left_waiting run (Ok board) words a e = stage_is a (by_set_up run (Ok board) words).run Waiting Running e refl
+left_waiting run (Ok board) words a e = stage_is a (by_set_up run (Ok board) words).run Waiting (Running board) e refl
 left_waiting run (Err why) words a e = stage_is a (by_set_up run (Err why) words).run Waiting Over e refl
 
 settings_leave : (run : Run) (read : Result Settings Refusal) (a : Run) → a.stage ≡ Waiting → same_stage a (by_settings run read).run ≡ false
@@ -95,7 +94,3 @@ unfolding set_up_told same_stage
 set_up_leaves session after words words_after bytes out out_after len next e k =
     ap (λ (s : Session). same_stage (run_of session words) (run_of s words_after)) k.session
     ∙ settings_leave (run_of session words) (settings_of bytes) (run_of session words) e
-
--- a session that waits does not run
-pub still_waits : {A : Type 0} → Waiting ≡ Running → A
-still_waits e = let z : ◌≡◌ {A = ℕ} 0 1 = cc in absurd (omega arith)

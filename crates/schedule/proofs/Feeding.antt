@@ -7,6 +7,7 @@ use mathlib.Core.List.{List, [], ◌∷◌}
 use borrow.Author.Tests.{eq-eqb}
 use Rattle.schedule.specs.Feeding.{Feeding, holding, record_answered, byte_gathered, take_in, take_byte, is_full, stage_number, same_stage, feed_of}
 use Rattle.schedule.specs.Gathering.{Gathered, put, closes, gather_of}
+use Rattle.rules.specs.declared.Board.{Board}
 use Rattle.answers.specs.Run.{Run}
 use Rattle.answers.specs.declared.Stage.{Stage}
 use Rattle.answers.specs.declared.Stage.TheVariants.{Waiting, Running, Over}
@@ -29,8 +30,8 @@ Reads s = (f : Feeding) (byte : ℕ) → take_in s f byte ≡ byte_gathered f by
 pub waiting_reads : Reads Waiting
 waiting_reads f byte = refl
 
-pub running_reads : Reads Running
-running_reads f byte = refl
+pub running_reads : (board : Board) → Reads (Running board)
+running_reads board f byte = refl
 
 pub feed_gather : (f : Feeding) (bytes : List ℕ) → is_full f ≡ false → Reads f.run.stage
     → feed_of f bytes ≡ after_gathering f (gather_of f.held bytes)

@@ -131,8 +131,8 @@ module _ (a b : List ℕ) (la : 512 < length a) (lb : 512 < length b) where
   long_same : (s : Stage) (run : Run) → told_in s run a ≡ told_in s run b
   unfolding set_up_told schedule_told
   long_same Waiting run = ap (by_settings run) (settings_long a la ∙ sym (settings_long b lb))
-  long_same Running run =
-      ap (λ (r : Result Entry Refusal). cond (ltb run.count most_records) (by_entry run r) (too_many_told run))
+  long_same (Running board) run =
+      ap (λ (r : Result Entry Refusal). cond (ltb run.count most_records) (by_entry board run r) (too_many_told run))
       (schedule_long a _ la ∙ sym (schedule_long b _ lb))
   long_same Over run = refl
 

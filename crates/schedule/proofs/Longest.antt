@@ -39,29 +39,29 @@ settings_pay : (run : Run) (read : Result Settings Refusal) → Pays (longest_ro
 settings_pay run (Ok s) = start_pays run (set_up_rule s run.words).0 _
 settings_pay run (Err why) = omega (arith, row_at_most (set_up_row why))
 
-entry_pays : (run : Run) (entry : Result Entry Refusal) → run.count < most_records
-    → Pays (longest_row * rows_to_come Running run.count) (by_entry run entry)
+entry_pays : (board : Board) (run : Run) (entry : Result Entry Refusal) → run.count < most_records
+    → Pays (longest_row * rows_to_come (Running board) run.count) (by_entry board run entry)
 unfolding event_told
-entry_pays run (Ok (Begin process call values)) few = omega (arith, row_at_most (numbered_row (run.count + 1) (begin process call values) (state_of run)))
-entry_pays run (Ok (Step process)) few = omega (arith, row_at_most (numbered_row (run.count + 1) (step process) (state_of run)))
-entry_pays run (Err why) few = omega (arith, row_at_most (nobodys_row (run.count + 1) why))
+entry_pays board run (Ok (Begin process call values)) few = omega (arith, row_at_most (numbered_row (run.count + 1) (begin process call values) (state_of board run)))
+entry_pays board run (Ok (Step process)) few = omega (arith, row_at_most (numbered_row (run.count + 1) (step process) (state_of board run)))
+entry_pays board run (Err why) few = omega (arith, row_at_most (nobodys_row (run.count + 1) why))
 
-schedule_pays : (run : Run) (bytes : List ℕ) → Pays (longest_row * rows_to_come Running run.count) (schedule_told run bytes)
+schedule_pays : (board : Board) (run : Run) (bytes : List ℕ) → Pays (longest_row * rows_to_come (Running board) run.count) (schedule_told board run bytes)
 unfolding schedule_told
-schedule_pays run bytes = go (ltb run.count most_records) refl
+schedule_pays board run bytes = go (ltb run.count most_records) refl
   where
     read : Result Entry Refusal
-    read = schedule_of bytes run.board.settings.w
+    read = schedule_of bytes board.settings.w
 
     go : (few : Bool) → ltb run.count most_records ≡ few
-        → Pays (longest_row * rows_to_come Running run.count) (cond few (by_entry run read) (too_many_told run))
-    go true e = entry_pays run read (ltb-true _ _ e)
+        → Pays (longest_row * rows_to_come (Running board) run.count) (cond few (by_entry board run read) (too_many_told run))
+    go true e = entry_pays board run read (ltb-true _ _ e)
     go false e = omega (arith, row_at_most (nobodys_row (most_records + 1) TooManyRecords))
 
 told_pays : (s : Stage) (run : Run) (bytes : List ℕ) → run.stage ≡ s → Pays (longest_row * rows_to_come s run.count) (told_in s run bytes)
 unfolding set_up_told
 told_pays Waiting run bytes e = settings_pay run (settings_of bytes)
-told_pays Running run bytes e = schedule_pays run bytes
+told_pays (Running board) run bytes e = schedule_pays board run bytes
 told_pays Over run bytes e = subst (λ (s : Stage). 0 + longest_row * rows_to_come s run.count ≤ 0) (sym e) (omega arith)
 
 record_pays : (run : Run) (bytes : List ℕ) → Pays (bytes_to_come run) (record_told run bytes)
@@ -86,7 +86,7 @@ gathered_no_more f byte = go (closes f.held byte)
 
 taken_no_more : (s : Stage) (f : Feeding) (byte : ℕ) → NoMore f (take_in s f byte)
 taken_no_more Waiting f byte = gathered_no_more f byte
-taken_no_more Running f byte = gathered_no_more f byte
+taken_no_more (Running board) f byte = gathered_no_more f byte
 taken_no_more Over f byte = omega arith
 
 feed_no_more : (f : Feeding) (bytes : List ℕ) → NoMore f (feed_of f bytes).0

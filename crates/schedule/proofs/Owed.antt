@@ -43,27 +43,27 @@ short_settings : (run : Run) (read : Result Settings Refusal) → Short (by_sett
 short_settings run (Ok s) = short_start run (set_up_rule s run.words).0 _
 short_settings run (Err why) = row_at_most _
 
-short_entry : (run : Run) (entry : Result Entry Refusal) → Short (by_entry run entry)
+short_entry : (board : Board) (run : Run) (entry : Result Entry Refusal) → Short (by_entry board run entry)
 unfolding event_told
-short_entry run (Ok (Begin process call values)) = row_at_most _
-short_entry run (Ok (Step process)) = row_at_most _
-short_entry run (Err why) = row_at_most _
+short_entry board run (Ok (Begin process call values)) = row_at_most _
+short_entry board run (Ok (Step process)) = row_at_most _
+short_entry board run (Err why) = row_at_most _
 
-short_schedule : (run : Run) (bytes : List ℕ) → Short (schedule_told run bytes)
+short_schedule : (board : Board) (run : Run) (bytes : List ℕ) → Short (schedule_told board run bytes)
 unfolding schedule_told
-short_schedule run bytes = go (ltb run.count most_records)
+short_schedule board run bytes = go (ltb run.count most_records)
   where
     said : Told
-    said = by_entry run (schedule_of bytes run.board.settings.w)
+    said = by_entry board run (schedule_of bytes board.settings.w)
 
     go : (t : Bool) → Short (cond t said (too_many_told run))
-    go true = short_entry run (schedule_of bytes run.board.settings.w)
+    go true = short_entry board run (schedule_of bytes board.settings.w)
     go false = row_at_most (nobodys_row (most_records + 1) TooManyRecords)
 
 short_told : (s : Stage) (run : Run) (bytes : List ℕ) → Short (told_in s run bytes)
 unfolding set_up_told
 short_told Waiting run bytes = short_settings run (settings_of bytes)
-short_told Running run bytes = short_schedule run bytes
+short_told (Running board) run bytes = short_schedule board run bytes
 short_told Over run bytes = omega arith
 
 pub told_short : (run : Run) (bytes : List ℕ) → length (record_told run bytes).printed ≤ longest_row
@@ -151,7 +151,7 @@ module _ (written : List ℕ) (total : List ℕ → List ℕ) (f : Feeding) (byt
 
   taken_owes : (s : Stage) → f.run.stage ≡ s → Owes written (take_in s f byte) (λ rest. total (byte ∷ rest))
   taken_owes Waiting e = gathered_owes
-  taken_owes Running e = gathered_owes
+  taken_owes (Running board) e = gathered_owes
   taken_owes Over e = passing_owes e
 
   pub byte_owes : Owes written (take_byte f byte) (λ rest. total (byte ∷ rest))

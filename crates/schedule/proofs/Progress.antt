@@ -20,7 +20,6 @@ use Rattle.schedule.specs.declared.Session.{Session}
 use Rattle.answers.specs.declared.Stage.{Stage}
 use Rattle.answers.specs.declared.Stage.TheVariants.{Running}
 use Rattle.schedule.proofs.RunningOn.{running, opened}
-use Rattle.schedule.proofs.Tellings.{over_order}
 
 -- no more is left than there was, and less where a byte was there
 left_most : (h : Held) (bytes : List ℕ) → length (gather_of h bytes).left ≤ length bytes
@@ -90,20 +89,20 @@ pub room : (free : ℕ) (t : Bool) → t ≡ ltb free longest_row → t ≡ fals
 room free t e q = ltb-false free longest_row (sym e ∙ q)
 
 -- a session that runs
-pub as_running : (session : Session) (line words out : List ℕ) (len : ℕ) (bytes : List ℕ) → session.stage ≡ Running
-    → feed_of (feeding (running session.board session.count session.held session.cr) line words out len) bytes
+pub as_running : (board : Board) (session : Session) (line words out : List ℕ) (len : ℕ) (bytes : List ℕ) → session.stage ≡ Running board
+    → feed_of (feeding (running board session.count session.held session.cr) line words out len) bytes
     ≡ feed_of (feeding session line words out len) bytes
-as_running session line words out len bytes e =
-    ap (λ (s : Stage). feed_of (feeding (record { stage = s; board = session.board; count = session.count; held = session.held; cr = session.cr }) line words out len) bytes) (sym e)
+as_running board session line words out len bytes e =
+    ap (λ (s : Stage). feed_of (feeding (record { stage = s; count = session.count; held = session.held; cr = session.cr }) line words out len) bytes) (sym e)
 
 pub running_ready : (board : Board) (count held : ℕ) (cr : Bool) (line words : List ℕ)
     → InOrder board words → held ≤ line_length → length line ≡ line_length → Ready (running board count held cr) line words
-running_ready board count held cr line words o h l = record { order = λ q. o; held = h; long = l }
+running_ready board count held cr line words o h l = record { order = o; held = h; long = l }
 
 pub ended_ready : (row : Row) (session after : Session) (out out_after line words : List ℕ) (len next : ℕ) → EndsWithRow row session out len after out_after next
     → length line ≡ line_length → Ready after line words
 ended_ready row session after out out_after line words len next k l =
-    subst (λ (s : Session). Ready s line words) (sym k.over) (record { order = over_order session.board words; held = omega arith; long = l })
+    subst (λ (s : Session). Ready s line words) (sym k.over) (record { order = tt; held = omega arith; long = l })
 
 -- the place that the answer gives is the one that was reached
 pub placed : (f : Feeding) (chunk : List ℕ) (at next : ℕ) (all : Feeding × List ℕ) → at ≡ next → ◌≡◌ {A = Feeding × List ℕ} (f, drop next chunk) all

@@ -37,7 +37,7 @@ use Rattle.schedule.proofs.Tellings.{read_tells, within_records, past_records, i
 
 -- a running session
 abbrev pub running : Board → ℕ → ℕ → Bool → Session
-running board count held cr = record { stage = Running; board = board; count = count; held = held; cr = cr }
+running board count held cr = record { stage = Running board; count = count; held = held; cr = cr }
 
 -- a running session after some bytes
 abbrev pub fed_running : Board → ℕ → ℕ → Bool → ℕ → ℕ → Fed
@@ -74,7 +74,7 @@ module _ (board : Board) (count held : ℕ) (cr : Bool) (line words out : List �
   -- the bytes ended first
   pub opened : closed ≡ false
       → (feeding (running board count h.held h.cr) h.line words out len, left) ≡ feed_of (feeding (running board count held cr) line words out len) bytes
-  opened e = fed_open (running board count held cr) line words out len bytes h left closed room running_reads g e
+  opened e = fed_open (running board count held cr) line words out len bytes h left closed room (running_reads board) g e
 
   -- one record too many
   pub too_many : (session after : Session) (out_after : List ℕ) (next : ℕ) → closed ≡ true → most_records ≤ count
@@ -84,10 +84,10 @@ module _ (board : Board) (count held : ℕ) (cr : Bool) (line words out : List �
   too_many session after out_after next e many x k =
       let moved : EndsWithRow (nobodys_row (most_records + 1) TooManyRecords) (running board count held cr) out len after out_after next =
       record { over = k.over ∙ ap over_of x; bytes = k.bytes; place = k.place } in
-      let told = in_stage (running board count held cr) words out len Running (bytes_of h) after words out_after next refl
-      (past_records (running board count held cr) words out len (bytes_of h) after out_after next many moved) in
-      fed_left (running board count held cr) line words out len bytes h left closed room running_reads g after words out_after next e told
-      (stage_is (run_of (running board count held cr) words) (run_of after words) Running Over refl (ap (λ (s : Session). s.stage) k.over))
+      let told = in_stage (running board count held cr) words out len (Running board) (bytes_of h) after words out_after next refl
+      (past_records board (running board count held cr) words out len (bytes_of h) after out_after next many moved) in
+      fed_left (running board count held cr) line words out len bytes h left closed room (running_reads board) g after words out_after next e told
+      (stage_is (run_of (running board count held cr) words) (run_of after words) (Running board) Over refl (ap (λ (s : Session). s.stage) k.over))
 
   -- a record answered
   module _ (o : InOrder board words) (s : Settings) (same : board.settings ≡ s) (read : Result Entry Refusal) (me : ℕ) (q : Process)
@@ -96,23 +96,23 @@ module _ (board : Board) (count held : ℕ) (cr : Bool) (line words out : List �
       (k : Answers (count + 1) s read (process_at board me) words out len q words_after out_after next) where
     told : Tells (record_told (run_of (running board count held cr) words) (bytes_of h)) out len (running (put_process board me q) (count + 1) 0 false) words_after out_after next
     told =
-        in_stage (running board count held cr) words out len Running (bytes_of h) (running (put_process board me q) (count + 1) 0 false) words_after out_after next refl
-        (within_records (running board count held cr) words out len (bytes_of h) read (running (put_process board me q) (count + 1) 0 false) words_after out_after next few
+        in_stage (running board count held cr) words out len (Running board) (bytes_of h) (running (put_process board me q) (count + 1) 0 false) words_after out_after next refl
+        (within_records board (running board count held cr) words out len (bytes_of h) read (running (put_process board me q) (count + 1) 0 false) words_after out_after next few
         (r ∙ ap (λ (z : Settings). schedule_of (bytes_of h) z.w) (sym same))
-        (read_tells (running board count held cr) words o read out len me q words_after out_after next
+        (read_tells board (running board count held cr) words o read out len me q words_after out_after next
         (at ∙ ap (λ (z : Settings). slot_of read z.n) (sym same))
         (subst (λ (z : Settings). Answers (count + 1) z read (process_at board me) words out len q words_after out_after next) (sym same) k)))
 
     order : InOrder (put_process board me q) words_after
     order =
         session_order (record_told (run_of (running board count held cr) words) (bytes_of h)) out len (running (put_process board me q) (count + 1) 0 false)
-        words_after out_after next told (record_order (run_of (running board count held cr) words) (bytes_of h) (λ i. o)) refl
+        words_after out_after next told (record_order (run_of (running board count held cr) words) (bytes_of h) o)
 
     answered_on : feed_of (feeding (running (put_process board me q) (count + 1) 0 false) h.line words_after out_after next) left
         ≡ feed_of (feeding (running board count held cr) line words out len) bytes
     answered_on =
-        fed_on (running board count held cr) line words out len bytes h left closed room running_reads g (running (put_process board me q) (count + 1) 0 false) words_after out_after next e told
-        (stage_is (run_of (running board count held cr) words) (run_of (running (put_process board me q) (count + 1) 0 false) words_after) Running Running refl refl)
+        fed_on (running board count held cr) line words out len bytes h left closed room (running_reads board) g (running (put_process board me q) (count + 1) 0 false) words_after out_after next e told
+        (stage_is (run_of (running board count held cr) words) (run_of (running (put_process board me q) (count + 1) 0 false) words_after) (Running board) (Running (put_process board me q)) refl refl)
 
     -- the board is in order and has the same settings, and feeding goes on
     pub goes_on_lem : InOrder (put_process board me q) words_after × (board.settings ≡ s)

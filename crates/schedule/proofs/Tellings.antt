@@ -32,8 +32,7 @@ use Rattle.answers.specs.Answering.{Answers}
 use Rattle.schedule.specs.Telling.{Tells, EndsWithRow}
 use Rattle.schedule.specs.Feeding.{run_of, session_of, feeding, telling}
 use Rattle.answers.specs.Moves.{slot_of, move_of, row_by}
-use Rattle.answers.specs.Order.{InOrder}
-use Rattle.schedule.specs.Ready.{OrderIn}
+use Rattle.answers.specs.Order.{InOrder, OrderIn}
 use Rattle.answers.specs.Run.{Run, Told, ended, by_set_up, by_settings, set_up_told, nobodys_row, by_entry, most_records, too_many_told, schedule_told, told_in, record_told}
 use Rattle.schedule.specs.declared.Session.{Session}
 use Rattle.answers.specs.declared.Stage.{Stage}
@@ -65,10 +64,7 @@ tells_feeding told session after line words words_after out out_after len next k
 
 -- the order of a run after a record
 abbrev Orderly : Run → Type 0
-Orderly run = OrderIn run.stage run.board run.words
-
-pub over_order : (board : Board) (words : List ℕ) → OrderIn Over board words
-over_order board words e = let z : ◌≡◌ {A = ℕ} 0 1 = cc in absurd (omega arith)
+Orderly run = OrderIn run.stage run.words
 
 set_up_order : (run : Run) (s : Settings) → Orderly (by_settings run (Ok s)).run
 set_up_order run s = go (sizes_check s (length run.words)) refl
@@ -78,98 +74,99 @@ set_up_order run s = go (sizes_check s (length run.words)) refl
         let k = stands s run.words e in
         let room : words_used s ≤ length (fresh_words s run.words) = omega (arith, fresh_length s run.words k.room, k.room) in
         subst (λ (r : Result Board Refusal × List ℕ). Orderly (by_set_up run r.0 r.1).run) (sym (set_up_accepted s run.words e))
-        (λ q. record { settings = k.settings; room = room; form = fresh_in_form s run.words (sized s k.settings) })
+        (record { settings = k.settings; room = room; form = fresh_in_form s run.words (sized s k.settings) })
     go (Err why) e =
         subst (λ (r : Result Board Refusal × List ℕ). Orderly (by_set_up run r.0 r.1).run) (sym (set_up_refused_lem s run.words why e))
-        (over_order run.board run.words)
+        tt
 
 settings_order : (run : Run) (read : Result Settings Refusal) → Orderly (by_settings run read).run
 settings_order run (Ok s) = set_up_order run s
-settings_order run (Err why) = over_order run.board run.words
+settings_order run (Err why) = tt
 
-schedule_order : (run : Run) (bytes : List ℕ) → InOrder run.board run.words → Orderly (schedule_told run bytes).run
+schedule_order : (board : Board) (run : Run) (bytes : List ℕ) → InOrder board run.words → Orderly (schedule_told board run bytes).run
 unfolding schedule_told
-schedule_order run bytes o = go (ltb run.count most_records)
+schedule_order board run bytes o = go (ltb run.count most_records)
   where
     read : Result Entry Refusal
-    read = schedule_of bytes run.board.settings.w
+    read = schedule_of bytes board.settings.w
 
-    entered : Orderly (by_entry run read).run
+    entered : Orderly (by_entry board run read).run
     entered =
-        subst (λ (t : Told). Orderly t.run) (sym (entry_told run o read))
-        (λ q. entry_order run o read)
+        subst (λ (t : Told). Orderly t.run) (sym (entry_told board run o read))
+        (entry_order board run o read)
 
-    go : (t : Bool) → Orderly (cond t (by_entry run read) (too_many_told run)).run
+    go : (t : Bool) → Orderly (cond t (by_entry board run read) (too_many_told run)).run
     go true = entered
-    go false = over_order run.board run.words
+    go false = tt
 
-told_order : (s : Stage) (run : Run) (bytes : List ℕ) → run.stage ≡ s → Orderly run → Orderly (told_in s run bytes).run
+told_order : (s : Stage) (run : Run) (bytes : List ℕ) → run.stage ≡ s → OrderIn s run.words → Orderly (told_in s run bytes).run
 unfolding set_up_told
 told_order Waiting run bytes e o = settings_order run (settings_of bytes)
-told_order Running run bytes e o = schedule_order run bytes (o e)
-told_order Over run bytes e o = o
+told_order (Running board) run bytes e o = schedule_order board run bytes o
+told_order Over run bytes e o = subst (λ (s : Stage). OrderIn s run.words) (sym e) tt
 
-pub record_order : (run : Run) (bytes : List ℕ) → OrderIn run.stage run.board run.words
-    → OrderIn (record_told run bytes).run.stage (record_told run bytes).run.board (record_told run bytes).run.words
+pub record_order : (run : Run) (bytes : List ℕ) → OrderIn run.stage run.words
+    → OrderIn (record_told run bytes).run.stage (record_told run bytes).run.words
 unfolding record_told
 record_order run bytes o = told_order run.stage run bytes refl o
 
 -- .. of a session that tells it
 pub session_order : (told : Told) (out : List ℕ) (len : ℕ) (after : Session) (words out_after : List ℕ) (next : ℕ)
-    → Tells told out len after words out_after next → OrderIn told.run.stage told.run.board told.run.words
-    → OrderIn after.stage after.board words
+    → Tells told out len after words out_after next → OrderIn told.run.stage told.run.words
+    → OrderIn after.stage words
 session_order told out len after words out_after next k o =
-    subst (λ (w : List ℕ). OrderIn after.stage after.board w) (sym k.memory)
-    (subst (λ (s : Session). OrderIn s.stage s.board told.run.words) (sym k.session) o)
+    subst (λ (w : List ℕ). OrderIn after.stage w) (sym k.memory)
+    (subst (λ (s : Session). OrderIn s.stage told.run.words) (sym k.session) o)
 
 -- a schedule record in range
-pub read_tells : (session : Session) (words : List ℕ) (o : InOrder session.board words) (entry : Result Entry Refusal) (out : List ℕ) (len : ℕ)
-    (me : ℕ) (q : Process) (words_after out_after : List ℕ) (next : ℕ) → me ≡ slot_of entry session.board.settings.n
-    → Answers (session.count + 1) session.board.settings entry (process_at session.board me) words out len q words_after out_after next
-    → Tells (by_entry (run_of session words) entry) out len
-    (record { stage = Running; board = put_process session.board me q; count = session.count + 1; held = 0; cr = false }) words_after out_after next
-read_tells session words o entry out len me q words_after out_after next e k =
-    subst (λ (t : Told). Tells t out len (record { stage = Running; board = put_process session.board me q; count = session.count + 1; held = 0; cr = false }) words_after out_after next)
+pub read_tells : (board : Board) (session : Session) (words : List ℕ) (o : InOrder board words) (entry : Result Entry Refusal) (out : List ℕ) (len : ℕ)
+    (me : ℕ) (q : Process) (words_after out_after : List ℕ) (next : ℕ) → me ≡ slot_of entry board.settings.n
+    → Answers (session.count + 1) board.settings entry (process_at board me) words out len q words_after out_after next
+    → Tells (by_entry board (run_of session words) entry) out len
+    (record { stage = Running (put_process board me q); count = session.count + 1; held = 0; cr = false }) words_after out_after next
+read_tells board session words o entry out len me q words_after out_after next e k =
+    subst (λ (t : Told). Tells t out len (record { stage = Running (put_process board me q); count = session.count + 1; held = 0; cr = false }) words_after out_after next)
     (ap (λ (i : ℕ). record {
-      printed = row_of (row_by (session.count + 1) session.board.settings entry (moved i).0);
-      run = record { stage = Running; board = put_process session.board i (moved i).0.after; words = (moved i).1; count = session.count + 1 };
-    }) e ∙ sym (entry_told (run_of session words) o entry))
+      printed = row_of (row_by (session.count + 1) board.settings entry (moved i).0);
+      run = record { stage = Running (put_process board i (moved i).0.after); words = (moved i).1; count = session.count + 1 };
+    }) e ∙ sym (entry_told board (run_of session words) o entry))
     (record {
-      session = ap (λ (p : Process). record { stage = Running; board = put_process session.board me p; count = session.count + 1; held = 0; cr = false }) k.process;
+      session = ap (λ (p : Process). record { stage = Running (put_process board me p); count = session.count + 1; held = 0; cr = false }) k.process;
       memory = k.memory;
       bytes = k.bytes;
       place = k.place;
     })
   where
     moved : ℕ → Step
-    moved i = move_of session.board.settings entry (process_at session.board i) words
+    moved i = move_of board.settings entry (process_at board i) words
 
 -- a schedule record in range, by its bytes
-abbrev said : Run → List ℕ → Told
-said run bytes = by_entry run (schedule_of bytes run.board.settings.w)
+abbrev said : Board → Run → List ℕ → Told
+said board run bytes = by_entry board run (schedule_of bytes board.settings.w)
 
-module _ (session : Session) (words out : List ℕ) (len : ℕ) where
+module _ (board : Board) (session : Session) (words out : List ℕ) (len : ℕ) where
   -- a schedule record, by its number
   pub within_records : (bytes : List ℕ) (read : Result Entry Refusal) (after : Session) (words_after out_after : List ℕ) (next : ℕ)
-      → session.count < most_records → read ≡ schedule_of bytes session.board.settings.w
-      → Tells (by_entry (run_of session words) read) out len after words_after out_after next
-      → Tells (schedule_told (run_of session words) bytes) out len after words_after out_after next
+      → session.count < most_records → read ≡ schedule_of bytes board.settings.w
+      → Tells (by_entry board (run_of session words) read) out len after words_after out_after next
+      → Tells (schedule_told board (run_of session words) bytes) out len after words_after out_after next
   unfolding schedule_told
   within_records bytes read after words_after out_after next few e k =
       subst (λ (t : Told). Tells t out len after words_after out_after next)
-      (ap (by_entry (run_of session words)) e
-      ∙ ap (λ (t : Bool). cond t (said (run_of session words) bytes) (too_many_told (run_of session words)))
+      (ap (by_entry board (run_of session words)) e
+      ∙ ap (λ (t : Bool). cond t (said board (run_of session words) bytes) (too_many_told (run_of session words)))
       (sym (lt-ltb session.count most_records few))) k
 
   pub past_records : (bytes : List ℕ) (after : Session) (out_after : List ℕ) (next : ℕ)
       → most_records ≤ session.count → EndsWithRow (nobodys_row (most_records + 1) TooManyRecords) session out len after out_after next
-      → Tells (schedule_told (run_of session words) bytes) out len after words out_after next
+      → Tells (schedule_told board (run_of session words) bytes) out len after words out_after next
   unfolding schedule_told
   past_records bytes after out_after next many k =
-      subst (λ (t : Bool). Tells (cond t (said (run_of session words) bytes) (too_many_told (run_of session words))) out len after words out_after next)
+      subst (λ (t : Bool). Tells (cond t (said board (run_of session words) bytes) (too_many_told (run_of session words))) out len after words out_after next)
       (sym (le-ltb session.count most_records many))
       (ends_tell _ (nobodys_row (most_records + 1) TooManyRecords) session after words words out out_after len next refl k)
 
+module _ (session : Session) (words out : List ℕ) (len : ℕ) where
   -- any record, by the stage
   pub in_stage : (s : Stage) (bytes : List ℕ) (after : Session) (words_after out_after : List ℕ) (next : ℕ) → session.stage ≡ s
       → Tells (told_in s (run_of session words) bytes) out len after words_after out_after next

@@ -16,11 +16,11 @@ pub record Feeding : Type 0 where
   pub len : ℕ
 
 abbrev pub run_of : Session → List ℕ → Run
-run_of session words = record { stage = session.stage; board = session.board; words = words; count = session.count }
+run_of session words = record { stage = session.stage; words = words; count = session.count }
 
 -- a run with nothing held of its next record
 abbrev pub session_of : Run → Session
-session_of run = record { stage = run.stage; board = run.board; count = run.count; held = 0; cr = false }
+session_of run = record { stage = run.stage; count = run.count; held = 0; cr = false }
 
 -- a session with the line, the words and the output that are lent to it
 abbrev pub feeding : Session → List ℕ → List ℕ → List ℕ → ℕ → Feeding
@@ -56,13 +56,13 @@ byte_gathered f byte =
 
 abbrev pub is_over : Stage → Bool
 is_over Waiting = false
-is_over Running = false
+is_over (Running board) = false
 is_over Over = true
 
 -- when the run is over the input is not looked at
 abbrev pub take_in : Stage → Feeding → ℕ → Feeding
 take_in Waiting f byte = byte_gathered f byte
-take_in Running f byte = byte_gathered f byte
+take_in (Running board) f byte = byte_gathered f byte
 take_in Over f byte = f
 
 unfoldable pub take_byte : Feeding → ℕ → Feeding
@@ -74,7 +74,7 @@ is_full f = ltb (length f.out - f.len) longest_row
 
 abbrev pub stage_number : Stage → ℕ
 stage_number Waiting = 0
-stage_number Running = 1
+stage_number (Running board) = 1
 stage_number Over = 2
 
 unfoldable pub same_stage : Run → Run → Bool

@@ -10,7 +10,7 @@ use Rattle.schedule.specs.Feeding.{Feeding}
 -- the rows that may still come: of 1,000,000 records and of 12, or of a refused set-up
 abbrev pub rows_to_come : Stage → ℕ → ℕ
 rows_to_come Waiting count = most_records + 1
-rows_to_come Running count = (most_records - count) + 1
+rows_to_come (Running board) count = (most_records - count) + 1
 rows_to_come Over count = 0
 
 abbrev pub bytes_to_come : Run → ℕ

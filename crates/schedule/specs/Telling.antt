@@ -16,7 +16,7 @@ pub record Tells (told : Told) (out : List ℕ) (len : ℕ) (after : Session) (w
 
 -- a row is written, and the run is over
 abbrev pub over_of : Session → Session
-over_of session = record { stage = Over; board = session.board; count = session.count; held = 0; cr = false }
+over_of session = record { stage = Over; count = session.count; held = 0; cr = false }
 
 pub record EndsWithRow (row : Row) (session : Session) (out : List ℕ) (len : ℕ) (after : Session) (out_after : List ℕ) (len_after : ℕ) : Type 0 where
   pub over : after ≡ over_of session

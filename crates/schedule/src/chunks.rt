@@ -26,11 +26,10 @@ pub(crate) fn is_full(lent: usize, len: usize) -> bool
 
 // A running session with its parts; the record that is gathered.
 fn running(board: Board, count: u64, held: usize, cr: bool) -> Session
-    ensures { result ≡ record { stage = Running; board = board; count = count; held = held; cr = cr } }
+    ensures { result ≡ record { stage = Running board; count = count; held = held; cr = cr } }
 {
     Session {
-        stage: Stage::Running,
-        board,
+        stage: Stage::Running(board),
         count,
         held,
         cr,
@@ -39,7 +38,7 @@ fn running(board: Board, count: u64, held: usize, cr: bool) -> Session
 
 // The same after some bytes.
 fn fed_running(board: Board, count: u64, held: usize, cr: bool, next: usize, len: usize) -> Fed
-    ensures { result ≡ record { session = record { stage = Running; board = board; count = count; held = held; cr = cr }; next = next; len = len } }
+    ensures { result ≡ record { session = record { stage = Running board; count = count; held = held; cr = cr }; next = next; len = len } }
 {
     Fed {
         session: running(board, count, held, cr),
@@ -89,7 +88,6 @@ pub(crate) fn feed_set_up(
     Fed {
         session: Session {
             stage: Stage::Waiting,
-            board: session.board,
             count: session.count,
             held,
             cr: found.cr,
@@ -102,6 +100,7 @@ pub(crate) fn feed_set_up(
 // The board stays in a local, and each record takes one process out of it and puts it back.
 #[tactic(auto, using(answers::proofs::OneProcess::all_sized))]
 pub(crate) fn feed_running(
+    mut board: Board,
     session: Session,
     chunk: &[u8],
     at: usize,
@@ -110,11 +109,10 @@ pub(crate) fn feed_running(
     out: &mut [u8],
     len: usize,
 ) -> Fed
-    requires { (session.stage ≡ Running) × Ready session line.old mem.old × (at ≤ length chunk.now) }
+    requires { (session.stage ≡ Running board) × Ready session line.old mem.old × (at ≤ length chunk.now) }
     ensures { Feeds session chunk.now at line.old mem.old out.old len
         result line.new mem.new out.new }
 {
-    let mut board = session.board;
     let s = board.settings;
     let mut count = session.count;
     let mut held = session.held;

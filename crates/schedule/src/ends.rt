@@ -18,7 +18,6 @@ pub(crate) fn end_with(row: Row, session: Session, out: &mut [u8], len: usize) -
     Printed {
         after: Session {
             stage: Stage::Over,
-            board: session.board,
             count: session.count,
             held: 0,
             cr: false,

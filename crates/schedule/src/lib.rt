@@ -16,9 +16,7 @@ mod setup; // setup.rt: the set-up record
 mod take; // take.rt: one whole record
 
 use answers::{Printed, Stage};
-use board::blank_board;
 use printout::put_heading;
-use rules::Board;
 
 // Schedule records after this many are refused.
 pub const MOST_RECORDS: u64 = 1000000;
@@ -31,7 +29,6 @@ pub const LINE_LENGTH: usize = 513;
 #[derive(Clone, Copy)]
 pub struct Session {
     stage: Stage,
-    board: Board,
     count: u64,
     held: usize,
     cr: bool,
@@ -54,7 +51,6 @@ pub fn start(out: &mut [u8]) -> Printed<Session>
     Printed {
         after: Session {
             stage: Stage::Waiting,
-            board: blank_board(),
             count: 0,
             held: 0,
             cr: false,
@@ -93,7 +89,9 @@ pub fn feed(
     }
     match session.stage {
         Stage::Waiting => chunks::feed_set_up(session, chunk, at, line, mem, out, len),
-        Stage::Running => chunks::feed_running(session, chunk, at, line, mem, out, len),
+        Stage::Running(board) => {
+            chunks::feed_running(board, session, chunk, at, line, mem, out, len)
+        },
         Stage::Over => Fed {
             session,
             next: chunk.len(),

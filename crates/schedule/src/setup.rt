@@ -25,8 +25,7 @@ fn set_up_board(
     match set_up(s, mem) {
         Ok(board) => Printed {
             after: Session {
-                stage: Stage::Running,
-                board,
+                stage: Stage::Running(board),
                 count: 0,
                 held: 0,
                 cr: false,

@@ -3,8 +3,7 @@ ghost use Rattle.std.specs.Prelude.{◌-◌, ◌≤◌, ◌<◌, length};
 ghost use Rattle.printout.specs.Writing.{longest_row};
 ghost use Rattle.schedule.specs.Telling.{Tells};
 ghost use Rattle.schedule.specs.Feeding.{run_of};
-ghost use Rattle.answers.specs.Order.{InOrder};
-ghost use Rattle.schedule.specs.Ready.{OrderIn};
+ghost use Rattle.answers.specs.Order.{InOrder, OrderIn};
 ghost use Rattle.answers.specs.Run.{most_records, by_entry, schedule_told, record_told};
 
 use crate::ends::end_with_too_many;
@@ -12,20 +11,21 @@ use crate::setup::take_set_up;
 use crate::{MOST_RECORDS, Session};
 use answers::{Printed, Stage, answer, slot};
 use record::{Entry, read_schedule};
+use rules::Board;
 use word::Refusal;
 
 #[tactic(auto, using(answers::proofs::OneProcess::all_sized))]
 fn take_read(
+    mut board: Board,
     session: Session,
     read: Result<Entry, Refusal>,
     mem: &mut [u64],
     out: &mut [u8],
     len: usize,
 ) -> Printed<Session>
-    requires { InOrder session.board mem.old × (session.count < most_records) × (longest_row ≤ length out.old - len) }
-    ensures { Tells (by_entry (run_of session mem.old) read) out.old len result.after mem.new out.new result.len }
+    requires { InOrder board mem.old × (session.count < most_records) × (longest_row ≤ length out.old - len) }
+    ensures { Tells (by_entry board (run_of session mem.old) read) out.old len result.after mem.new out.new result.len }
 {
-    let mut board = session.board;
     let s = board.settings;
     let me = slot(read, s.n);
     let count = session.count + 1;
@@ -33,8 +33,7 @@ fn take_read(
     board.processes[me] = taken.after;
     Printed {
         after: Session {
-            stage: Stage::Running,
-            board,
+            stage: Stage::Running(board),
             count,
             held: 0,
             cr: false,
@@ -45,18 +44,19 @@ fn take_read(
 
 #[tactic(auto, unfolding(answers::specs::Run::schedule_told))]
 fn take_schedule(
+    board: Board,
     session: Session,
     bytes: &[u8],
     mem: &mut [u64],
     out: &mut [u8],
     len: usize,
 ) -> Printed<Session>
-    requires { InOrder session.board mem.old × (longest_row ≤ length out.old - len) }
-    ensures { Tells (schedule_told (run_of session mem.old) bytes.now) out.old len result.after mem.new out.new result.len }
+    requires { InOrder board mem.old × (longest_row ≤ length out.old - len) }
+    ensures { Tells (schedule_told board (run_of session mem.old) bytes.now) out.old len result.after mem.new out.new result.len }
 {
     if session.count < MOST_RECORDS {
-        let read = read_schedule(bytes, session.board.settings.w);
-        return take_read(session, read, mem, out, len);
+        let read = read_schedule(bytes, board.settings.w);
+        return take_read(board, session, read, mem, out, len);
     }
     end_with_too_many(session, out, len)
 }
@@ -69,16 +69,15 @@ pub(crate) fn take_record(
     out: &mut [u8],
     len: usize,
 ) -> Printed<Session>
-    requires { OrderIn session.stage session.board mem.old × (longest_row ≤ length out.old - len) }
+    requires { OrderIn session.stage mem.old × (longest_row ≤ length out.old - len) }
     ensures { Tells (record_told (run_of session mem.old) bytes.now) out.old len result.after mem.new out.new result.len }
 {
     match session.stage {
         Stage::Waiting => take_set_up(session, bytes, mem, out, len),
-        Stage::Running => take_schedule(session, bytes, mem, out, len),
+        Stage::Running(board) => take_schedule(board, session, bytes, mem, out, len),
         Stage::Over => Printed {
             after: Session {
                 stage: Stage::Over,
-                board: session.board,
                 count: session.count,
                 held: 0,
                 cr: false,

@@ -15,7 +15,7 @@ pub returns-then-is_full : goal.returns-then-is_full
 returns-then-is_full c =
     let loop = c.loop-next in
     let a = c.args in
-    let whole = loop.invariant.8 ∙ as_running a.session a.line.now a.mem.now a.out.now a.len (drop a.at a.chunk.now) c.requires.0 in
+    let whole = loop.invariant.8 ∙ as_running a.board a.session a.line.now a.mem.now a.out.now a.len (drop a.at a.chunk.now) c.requires.0 in
     let f = feeding (running loop.board loop.count loop.held loop.cr) loop.line loop.mem loop.out loop.size in
     feeds_as _ (fed_running loop.board loop.count loop.held loop.cr loop.next loop.size) c.fed_running.ensures (record {
       fed = sym (feed_full f (drop loop.next a.chunk.now) (is_full_lem f _ _ c.is_full.ensures c.if-is_full.true)) ∙ whole;
@@ -27,7 +27,7 @@ pub returns-then-count-ge-MOST_RECORDS : goal.returns-then-count-ge-MOST_RECORDS
 returns-then-count-ge-MOST_RECORDS c =
     let loop = c.loop-next in
     let a = c.args in
-    let whole = loop.invariant.8 ∙ as_running a.session a.line.now a.mem.now a.out.now a.len (drop a.at a.chunk.now) c.requires.0 in
+    let whole = loop.invariant.8 ∙ as_running a.board a.session a.line.now a.mem.now a.out.now a.len (drop a.at a.chunk.now) c.requires.0 in
     let gathered = c.gather-found.ensures in
     let over = c.fed_too_many.ensures in
     let ended = over.0 in
@@ -102,7 +102,7 @@ pub returns : goal.returns
 returns c =
     let loop = c.loop-next in
     let a = c.args in
-    let whole = loop.invariant.8 ∙ as_running a.session a.line.now a.mem.now a.out.now a.len (drop a.at a.chunk.now) c.requires.0 in
+    let whole = loop.invariant.8 ∙ as_running a.board a.session a.line.now a.mem.now a.out.now a.len (drop a.at a.chunk.now) c.requires.0 in
     let f = feeding (running loop.board loop.count loop.held loop.cr) loop.line loop.mem loop.out loop.size in
     feeds_as _ (fed_running loop.board loop.count loop.held loop.cr loop.next loop.size) c.fed_running-2.ensures (record {
       fed = used_up f a.chunk.now loop.next c.loop-next-test.false ∙ whole;

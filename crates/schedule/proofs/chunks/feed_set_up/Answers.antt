@@ -1,7 +1,7 @@
 -- `feed_set_up` meets its contract: the record is gathered, and answered where it is closed. Assumes nothing.
 use native.Mathlib.Omega.{arith}
 use mathlib.Core.Path.{sym, ap, ◌∙◌}
-use Rattle.schedule.proofs.FedOn.{fed_open, fed_left, reads_waiting, set_up_leaves, still_waits}
+use Rattle.schedule.proofs.FedOn.{fed_open, fed_left, reads_waiting, set_up_leaves}
 use Rattle.schedule.proofs.Tellings.{in_stage, session_order, record_order}
 use lib.ListN.{drop}
 use Rattle.schedule.specs.Feeding.{run_of, feeding}
@@ -34,12 +34,12 @@ returns c =
     let line = c.gather-found.new.line in
     record {
       fed = ap (λ (s : Stage). (
-        feeding (record { stage = s; board = a.session.board; count = a.session.count; held = found.held; cr = found.cr }) line a.mem.now
+        feeding (record { stage = s; count = a.session.count; held = found.held; cr = found.cr }) line a.mem.now
             a.out.now a.len,
         drop found.next a.chunk.now,
       )) (sym c.requires.0)
           ∙ fed_open a.session a.line.now a.mem.now a.out.now a.len (drop a.at a.chunk.now) _ _ _ c.requires.3
           (reads_waiting a.session.stage c.requires.0) c.gather-found.ensures.gathered c.if-found.false;
-      ready = record { order = λ q. still_waits q; held = c.gather-found.ensures.kept; long = c.gather-found.ensures.long };
+      ready = record { order = tt; held = c.gather-found.ensures.kept; long = c.gather-found.ensures.long };
       within = c.gather-found.ensures.within;
     }

@@ -5,11 +5,11 @@ use Rattle.schedule.proofs.take.take_read.Goals as goal
 
 pub answer-taken-requires : goal.answer-taken-requires
 answer-taken-requires c =
-    let k = served c.args.session.board c.args.mem.now c.requires.0 c.slot-me.result c.slot-me.ensures.1 in
+    let k = served c.args.board c.args.mem.now c.requires.0 c.slot-me.result c.slot-me.ensures.1 in
     (k.sizes, k.room, k.process, k.clean, c.requires.2)
 
 pub returns : goal.returns
 returns c =
     let a = c.args in
-    read_tells a.session a.mem.now c.requires.0 a.read a.out.now a.len _ _ _ _ _
+    read_tells a.board a.session a.mem.now c.requires.0 a.read a.out.now a.len _ _ _ _ _
     c.slot-me.ensures.0 c.answer-taken.ensures
