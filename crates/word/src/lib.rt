@@ -6,25 +6,25 @@ ghost use Rattle.std.specs.Prelude.{◌≡◌, ◌^◌, ◌<◌, ◌≤◌};
 ghost use Rattle.word.specs.Word.{bits_fit, tag_limit, value_limit, word, tag_of, value_of, next_tag, previous_tag};
 ghost use Rattle.word.specs.Packing.{pack_rule, unpack_rule};
 
-mod numbers; // numbers.rt: the number of each refusal and answer
+mod numbers; // numbers.rt: the number of a refusal, and of any answer
 
 pub use numbers::number_of;
 
-// Document 01's refusals, in the order of their numbers; `specs/Refusals.antt` gives each its number.
+// Document 01's refusals, each with its number.
 #[derive(Clone, Copy, Debug, PartialEq, Eq)]
 pub enum Refusal {
-    SettingOutsideSizes,
-    MemoryTooShort,
-    NotInGoodForm,
-    NoSuchProcess,
-    NoSuchVariable,
-    CallInProgress,
-    NoOpenSequence,
-    ValueTooGreat,
-    ProcessIdle,
-    RecordNotInForm,
-    FieldNotInForm,
-    TooManyRecords,
+    SettingOutsideSizes = 1,
+    MemoryTooShort = 2,
+    NotInGoodForm = 3,
+    NoSuchProcess = 4,
+    NoSuchVariable = 5,
+    CallInProgress = 6,
+    NoOpenSequence = 7,
+    ValueTooGreat = 8,
+    ProcessIdle = 9,
+    RecordNotInForm = 10,
+    FieldNotInForm = 11,
+    TooManyRecords = 12,
 }
 
 // What a word holds.

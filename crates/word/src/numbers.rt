@@ -8,20 +8,7 @@ impl Refusal {
     pub fn number(self) -> u64
         ensures { result ≡ number self }
     {
-        match self {
-            Refusal::SettingOutsideSizes => 1,
-            Refusal::MemoryTooShort => 2,
-            Refusal::NotInGoodForm => 3,
-            Refusal::NoSuchProcess => 4,
-            Refusal::NoSuchVariable => 5,
-            Refusal::CallInProgress => 6,
-            Refusal::NoOpenSequence => 7,
-            Refusal::ValueTooGreat => 8,
-            Refusal::ProcessIdle => 9,
-            Refusal::RecordNotInForm => 10,
-            Refusal::FieldNotInForm => 11,
-            Refusal::TooManyRecords => 12,
-        }
+        self as u64
     }
 }
 
