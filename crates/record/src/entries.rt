@@ -12,7 +12,7 @@ use rules::{Call, Values};
 use word::Refusal;
 
 // What a record asks for. Values that are not given are 0.
-#[derive(Clone, Copy)]
+#[derive(Clone, Copy, Debug, PartialEq, Eq)]
 pub enum Entry {
     Begin {
         process: usize,

@@ -9,7 +9,7 @@ pub use entries::{Entry, at_most_four, read_schedule};
 pub use setup::read_settings;
 
 // The acts of document 01: LL, VL, SC and step.
-#[derive(Clone, Copy)]
+#[derive(Clone, Copy, Debug, PartialEq, Eq)]
 pub enum Act {
     Load,
     Validate,

@@ -32,7 +32,7 @@ pub enum Call {
 }
 
 // Where Copy is: its variable, the header it was given, the segment, and whether it gathers values (in a load).
-#[derive(Clone, Copy)]
+#[derive(Clone, Copy, Debug, PartialEq, Eq)]
 pub struct Copy {
     pub variable: usize,
     pub header: u64,
@@ -41,7 +41,7 @@ pub struct Copy {
 }
 
 // Where a process stands in its call, named by the access that its next step makes.
-#[derive(Clone, Copy)]
+#[derive(Clone, Copy, Debug, PartialEq, Eq)]
 pub enum Place {
     Idle,
     // Figure 4, of a variable
@@ -64,7 +64,7 @@ pub enum Place {
 }
 
 // One keep-word a variable; bit x of `opened` is set while the sequence on variable x is open.
-#[derive(Clone, Copy)]
+#[derive(Clone, Copy, Debug, PartialEq, Eq)]
 pub struct Process {
     pub place: Place,
     pub opened: u16,
@@ -73,14 +73,14 @@ pub struct Process {
     pub gathered: Values,
 }
 
-#[derive(Clone, Copy)]
+#[derive(Clone, Copy, Debug, PartialEq, Eq)]
 pub struct Board {
     pub settings: Settings,
     pub processes: [Process; 16],
 }
 
 // What a begin or a step answers where it is not refused.
-#[derive(Clone, Copy)]
+#[derive(Clone, Copy, Debug, PartialEq, Eq)]
 pub enum Answer {
     Begun,
     Busy,
@@ -91,7 +91,7 @@ pub enum Answer {
 }
 
 // A process or a board after a begin or a step, with the answer. A refusal leaves it as found.
-#[derive(Clone, Copy)]
+#[derive(Clone, Copy, Debug, PartialEq, Eq)]
 pub struct Answered<S> {
     pub after: S,
     pub answer: Result<Answer, Refusal>,
