@@ -97,7 +97,8 @@ pub(crate) fn feed_set_up(
     }
 }
 
-// The board stays in a local, and each record takes one process out of it and puts it back.
+// The board stays where it is, and each record takes one process out of it and puts it back. How many bytes a turn takes
+// `gather` says: no `for` goes over them.
 #[tactic(auto, using(answers::proofs::OneProcess::all_sized))]
 pub(crate) fn feed_running(
     mut board: Board,
