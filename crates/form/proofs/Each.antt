@@ -1,13 +1,21 @@
--- A test of each element of a list, as an iterator makes it, is the rules' test of each number below the list's length.
--- Assumes nothing.
+-- A test of each element of a list, as an iterator makes it, is the rules' test of each number below the list's length;
+-- and so is what a call of `all` gives, on a list or a range, where its closure makes that test. Assumes nothing.
 use mathlib.Core.Path.{◌≡◌, refl, sym, ap, ◌∙◌}
 use mathlib.Core.Bool.{Bool, true, false, ◌&&◌}
 use mathlib.Core.List.{List, [], ◌∷◌}
 use Prim.Native.Nat.{ℕ, zero, suc, ◌<◌}
 use native.Mathlib.Omega.{arith}
+use denote.Param.Members.{Mut}
 use lib.ListN.{length, get_or}
-use Rattle.std.specs.List.{list_all, range_with_len}
+use Rattle.std.specs.Fn.{Called}
+use Rattle.std.specs.Iterator.{YieldsThen}
+use Rattle.std.specs.List.{list_all, range_with_len, FoldsTo}
+use Rattle.std.specs.Option.{MatchOption}
+use Rattle.std.specs.Prelude.{Option}
+use Rattle.std.proofs.iter.Yields.{nat_range_steps}
 use Rattle.std.proofs.Math.Bool.{and_assoc}
+use Rattle.std.proofs.lemmas.Iterator.{YieldsList, YieldsList-from_range}
+use Rattle.std.proofs.lemmas.Iterator.Search.{all_from_yields_List}
 use Rattle.std.proofs.lemmas.List.FromFn.{length-range_with_len, get_or-range_with_len}
 use Rattle.rules.specs.GoodForm.{all}
 
@@ -47,3 +55,31 @@ each_counted test n =
     at k l =
         let there : get_or (range_with_len 0 n) k 0 ≡ k = omega (arith, get_or-range_with_len 0 n k 0 l) in
         ap test there
+
+-- what a call of `all` with the closure f ran through, and its answer
+abbrev Ran :
+    {S A F : Type 0} → (S → Option A → S → Type 0) → Mut F (A × Unit {0}) Bool → S → S → F → Bool → Type 0
+Ran {S} {A} {F} steps g s u f r =
+    (xs : List A) × (o : Option A) × (j : F) × YieldsThen steps s xs o u × FoldsTo (λ p x q. Called g p (x, tt) true q) f xs j
+    × MatchOption o (r ≡ true) (λ x. (r ≡ false) × ((h : F) × Called g j (x, tt) false h))
+
+module _ {S A B F : Type 0} {steps : S → Option A → S → Type 0} {v : A → B} {g : Mut F (A × Unit {0}) Bool}
+    {s : S} {f : F} {r : Bool} {xs : List B} (each : B → Bool) (test : ℕ → Bool) (d : B) (n : ℕ) (u : S) where
+  pub list_tried :
+      Ran steps g s u f r
+      → YieldsList steps v s xs
+      → ((x : A) (b : Bool) (q : F) → Called g f (x, tt) b q → (q ≡ f) × (b ≡ each (v x)))
+      → length xs ≡ n
+      → ((k : ℕ) → k < n → each (get_or xs k d) ≡ test k)
+      → r ≡ all n test
+  list_tried ran chain called long same =
+      all_from_yields_List each u f r ran chain called ∙ each_listed each test d n xs long same
+
+module _ {F : Type 0} {g : Mut F (ℕ × Unit {0}) Bool} {s u : _} {f : F} {r : Bool} (test : ℕ → Bool) (n : ℕ) where
+  pub range_tried :
+      Ran nat_range_steps g s u f r
+      → s ≡ record { start = 0; end = n }
+      → ((x : ℕ) (b : Bool) (q : F) → Called g f (x, tt) b q → (q ≡ f) × (b ≡ test x))
+      → r ≡ all n test
+  range_tried ran whole called =
+      all_from_yields_List test u f r ran (YieldsList-from_range 0 n n whole (omega arith)) called ∙ each_counted test n

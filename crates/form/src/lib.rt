@@ -4,6 +4,7 @@
 mod places;
 mod processes;
 mod sizes;
+mod within; // within.rt: settings within the sizes, of which the tests here are methods
 mod words;
 
 pub use places::value_fits;

@@ -5,40 +5,54 @@ ghost use Rattle.rules.specs.GoodForm.{headers_fit, row_fits, rows_fit, words_fi
 ghost use Rattle.rules.specs.Sizes.{used_by, words_used};
 ghost use Rattle.rules.specs.declared.Kind.TheVariants.{Many};
 
-use crate::places::{names, value_fits};
-use crate::processes::processes_fit;
+use crate::within::Within;
 use process::addresses::{announce_at, header_at};
-use rules::{Board, Kind, Settings};
+use rules::{Board, Kind};
 
-fn headers_fit(s: Settings, mem: &[u64]) -> bool
-    requires { Sized s × (used_by Many s ≤ length mem.now) }
-    ensures { result ≡ headers_fit s mem.now }
-{
-    (0..s.t).all(|x| names(s, mem[header_at(s, x)]))
+// The words of a board of kind `many`, as many as it uses at least.
+#[derive(Clone, Copy)]
+struct Words<'a> {
+    within: Within,
+    mem: &'a [u64],
+    ghost lent: { used_by Many within.s ≤ length mem.now },
 }
 
-fn row_fits(s: Settings, p: usize, mem: &[u64]) -> bool
-    requires { Sized s × (used_by Many s ≤ length mem.now) × (p < s.n) }
-    ensures { result ≡ row_fits s p mem.now }
-{
-    (0..s.w).all(|i| value_fits(s, mem[announce_at(s, p, i)]))
+impl Words<'_> {
+    fn headers_fit(&self) -> bool
+        ensures { result ≡ headers_fit self.now.within.s self.now.mem.now }
+    {
+        let Words { within, mem } = *self;
+        (0..within.s.t).all(|x| within.names(mem[header_at(within.s, x)]))
+    }
+
+    fn row_fits(&self, p: usize) -> bool
+        requires { p < self.now.within.s.n }
+        ensures { result ≡ row_fits self.now.within.s p self.now.mem.now }
+    {
+        let Words { within, mem } = *self;
+        (0..within.s.w).all(|i| within.value_fits(mem[announce_at(within.s, p, i)]))
+    }
+
+    fn rows_fit(&self) -> bool
+        ensures { result ≡ rows_fit self.now.within.s self.now.mem.now }
+    {
+        (0..self.within.s.n).all(|p| self.row_fits(p))
+    }
 }
 
-fn rows_fit(s: Settings, mem: &[u64]) -> bool
-    requires { Sized s × (used_by Many s ≤ length mem.now) }
-    ensures { result ≡ rows_fit s mem.now }
-{
-    (0..s.n).all(|p| row_fits(s, p, mem))
-}
-
-#[tactic(auto, unfolding(rules::specs::GoodForm::words_fit))]
-fn words_fit(s: Settings, mem: &[u64]) -> bool
-    requires { Sized s × (words_used s ≤ length mem.now) }
-    ensures { result ≡ words_fit s mem.now }
-{
-    match s.kind {
-        Kind::One => true,
-        Kind::Many => headers_fit(s, mem) && rows_fit(s, mem),
+impl Within {
+    #[tactic(auto, unfolding(rules::specs::GoodForm::words_fit))]
+    fn words_fit(self, mem: &[u64]) -> bool
+        requires { words_used self.s ≤ length mem.now }
+        ensures { result ≡ words_fit self.s mem.now }
+    {
+        match self.s.kind {
+            Kind::One => true,
+            Kind::Many => {
+                let words = Words { within: self, mem };
+                words.headers_fit() && words.rows_fit()
+            }
+        }
     }
 }
 
@@ -47,5 +61,6 @@ pub fn in_good_form(board: Board, mem: &[u64]) -> bool
     requires { Sized board.settings × (words_used board.settings ≤ length mem.now) }
     ensures { result ≡ in_good_form board mem.now }
 {
-    processes_fit(board) && words_fit(board.settings, mem)
+    let within = Within { s: board.settings };
+    within.processes_fit(board.processes) && within.words_fit(mem)
 }
