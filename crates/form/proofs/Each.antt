@@ -40,14 +40,14 @@ by_length each test d (x ∷ xs) same =
     rw (first test (length xs), same 0 (omega arith), by_length each (λ i. test (suc i)) d xs (λ k l. same (suc k) (omega arith)))
 
 -- the same test of each element, and of the number where it lies
-pub each_listed :
+each_listed :
     {X : Type 0} (each : X → Bool) (test : ℕ → Bool) (d : X) (n : ℕ) (xs : List X)
     → length xs ≡ n
     → ((k : ℕ) → k < n → each (get_or xs k d) ≡ test k)
     → list_all each xs ≡ all n test
 each_listed each test d n xs long same = rw (sym long) (by_length each test d xs (λ k l. same k (omega arith)))
 
-pub each_counted : (test : ℕ → Bool) (n : ℕ) → list_all test (range_with_len 0 n) ≡ all n test
+each_counted : (test : ℕ → Bool) (n : ℕ) → list_all test (range_with_len 0 n) ≡ all n test
 each_counted test n =
     each_listed test test 0 n (range_with_len 0 n) (length-range_with_len 0 n) at
   where
