@@ -34,6 +34,7 @@ pub fn begin_process(s: Settings, p: Process, call: Call, values: Values) -> Ans
 }
 
 // The mask's ones, which are the variables below T on which a sequence is open, where none is open from T on.
+#[tactic(auto, using(rules::proofs::Sequences::Counts::counted), unfolding(rules::specs::GoodForm::open_fits))]
 pub fn sequences_open(s: Settings, opened: u16) -> u32
     requires { open_fits s opened ≡ true }
     ensures { result ≡ open_count opened s.t }

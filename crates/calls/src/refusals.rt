@@ -1,4 +1,5 @@
-// What a begin checks of a process and a call: refusals 5 to 8, in document 01's order.
+// What a begin checks of a process and a call: refusals 5 to 8, in document 01's order. Three of these functions ask for
+// `Sized s`, each to call the next: a type for that would be a second `Within` of `form`, for one method that uses the fact.
 ghost use Rattle.std.specs.Prelude.{◌≡◌, ◌&&◌, ◌||◌, ◌<◌, nat_lt, ◌==◌};
 ghost use Rattle.rules.specs.Bounds.{Sized};
 ghost use Rattle.rules.specs.GoodForm.{value_fits};
@@ -35,18 +36,11 @@ fn lacks_sequence(call: Call, opened: u16) -> bool
     }
 }
 
+#[tactic(auto, unfolding(rules::specs::Refusals::all_blank, rules::specs::GoodForm::all))]
 fn all_blank(values: Values) -> bool
     ensures { result ≡ all_blank values }
 {
     values == [0; 4]
-}
-
-// Whether value i of a store may stand there.
-fn is_storable(s: Settings, i: usize, value: u64) -> bool
-    requires { Sized s }
-    ensures { result ≡ value_fits s value && (nat_lt i s.w || value == 0) }
-{
-    value_fits(s, value) && (i < s.w || value == 0)
 }
 
 // A store's values: each may stand where it is.
@@ -54,10 +48,7 @@ fn storable(s: Settings, values: Values) -> bool
     requires { Sized s }
     ensures { result ≡ storable s values }
 {
-    values
-        .iter()
-        .enumerate()
-        .all(|(i, value)| is_storable(s, i, *value))
+    values.iter().enumerate().all(|(i, value)| value_fits(s, *value) && (i < s.w || *value == 0))
 }
 
 // A load or a validate has no values.
