@@ -14,9 +14,10 @@ pub(crate) fn saving(c: Copy, value: u64, p: Process) -> Process
     ensures { result ≡ saving c value p }
 {
     if c.gathers {
-        return gathering(c.segment, value, p);
+        gathering(c.segment, value, p)
+    } else {
+        p
     }
-    p
 }
 
 // 20, 21: a store whose header was swapped answers yes in any case, and its sequence closes.
@@ -33,14 +34,15 @@ fn copy_through(c: Copy, p: Process) -> Answered<Process>
     ensures { result ≡ copy_through c p }
 {
     if c.gathers {
-        return ends(Answer::Value(p.gathered), p);
+        ends(Answer::Value(p.gathered), p)
+    } else {
+        store_ends(c, p)
     }
-    store_ends(c, p)
 }
 
 // 1: the next segment, or the end.
 pub(crate) fn copy_on(s: Settings, c: Copy, p: Process) -> Answered<Process>
-    requires { Sized s × (c.variable < s.t) × (c.segment < s.w) }
+    requires { (c.variable < 16) × (c.segment < s.w) }
     ensures { result ≡ copy_on s c p }
 {
     if c.segment + 1 < s.w {
@@ -48,18 +50,20 @@ pub(crate) fn copy_on(s: Settings, c: Copy, p: Process) -> Answered<Process>
             segment: c.segment + 1,
             ..c
         };
-        return goes_on(Place::ReadsSegment(next), p);
+        goes_on(Place::ReadsSegment(next), p)
+    } else {
+        copy_through(c, p)
     }
-    copy_through(c, p)
 }
 
 // 7: the header differs: a load ends with the process named in the header just read as witness; a store yes in any case.
 pub(crate) fn copy_cut_short(s: Settings, c: Copy, header: u64, p: Process) -> Answered<Process>
-    requires { Sized s × (c.variable < s.t) }
+    requires { Sized s × (c.variable < 16) }
     ensures { result ≡ copy_cut_short s c header p }
 {
     if c.gathers {
-        return ends(Answer::Witness(s.layout.value_of(header)), p);
+        ends(Answer::Witness(s.layout.value_of(header)), p)
+    } else {
+        store_ends(c, p)
     }
-    store_ends(c, p)
 }

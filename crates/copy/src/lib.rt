@@ -18,19 +18,19 @@ use rules::{Answered, Copy, Place, Process, Settings};
 mod gathered; // gathered.rt: what Copy does with a segment's value, and how it ends
 
 // 2, 3: read the segment; is its tag the one before the header's?
+#[tactic(auto, using(word::proofs::Laws::tag_lt))]
 pub fn reads_segment(s: Settings, p: Process, c: Copy, mem: &[u64]) -> Answered<Process>
     requires { Sized s × (used_by Many s ≤ length mem.now) × (c.variable < s.t) × (c.segment < s.w) }
     ensures { result ≡ (reads_segment s p c mem.now).0 }
 {
-    let at = segment_at(s, c.variable, c.segment);
-    let read = mem[at];
+    let read = mem[segment_at(s, c.variable, c.segment)];
     let before = s.layout.previous_tag(s.layout.tag_of(c.header));
     let tag = s.layout.tag_of(read);
     if tag == before {
-        return goes_on(Place::ReadsAnnounced(c, read), p);
+        goes_on(Place::ReadsAnnounced(c, read), p)
+    } else {
+        goes_on(Place::ReadsHeader(c, s.layout.value_of(read)), p)
     }
-    let value = s.layout.value_of(read);
-    goes_on(Place::ReadsHeader(c, value), p)
 }
 
 // 4: read the announced value of the header's process at this place.
@@ -45,13 +45,13 @@ pub fn reads_announced(
     ensures { result ≡ (reads_announced s p c read mem.now).0 }
 {
     let announcer = s.layout.value_of(c.header);
-    let at = announce_at(s, announcer as usize, c.segment);
-    let announced = mem[at];
+    let announced = mem[announce_at(s, announcer as usize, c.segment)];
     goes_on(Place::SwapsSegment(c, read, announced), p)
 }
 
 // 5: compare-and-swap the segment from what was read to (header's tag, announced value). 6, mended: where the swap
 // succeeded, that is the segment's content; where it failed, the segment is read again.
+#[tactic(auto, using(word::proofs::Laws::tag_lt))]
 pub fn swaps_segment(
     s: Settings,
     p: Process,
@@ -67,9 +67,10 @@ pub fn swaps_segment(
     if mem[here] == read {
         let tag = s.layout.tag_of(c.header);
         mem[here] = s.layout.word_of(tag, announced);
-        return goes_on(Place::ReadsHeader(c, announced), p);
+        goes_on(Place::ReadsHeader(c, announced), p)
+    } else {
+        goes_on(Place::ReadsSegmentAgain(c), p)
     }
-    goes_on(Place::ReadsSegmentAgain(c), p)
 }
 
 // 6, mended: one step more.
@@ -77,10 +78,8 @@ pub fn reads_segment_again(s: Settings, p: Process, c: Copy, mem: &[u64]) -> Ans
     requires { Sized s × (used_by Many s ≤ length mem.now) × (c.variable < s.t) × (c.segment < s.w) }
     ensures { result ≡ (reads_segment_again s p c mem.now).0 }
 {
-    let at = segment_at(s, c.variable, c.segment);
-    let again = mem[at];
-    let value = s.layout.value_of(again);
-    goes_on(Place::ReadsHeader(c, value), p)
+    let again = mem[segment_at(s, c.variable, c.segment)];
+    goes_on(Place::ReadsHeader(c, s.layout.value_of(again)), p)
 }
 
 // 7: read the header; does it differ from the one Copy was given?
@@ -88,11 +87,10 @@ pub fn reads_header(s: Settings, p: Process, c: Copy, value: u64, mem: &[u64]) -
     requires { Sized s × (used_by Many s ≤ length mem.now) × (c.variable < s.t) × (c.segment < s.w) }
     ensures { result ≡ (reads_header s p c value mem.now).0 }
 {
-    let at = header_at(s, c.variable);
-    let header = mem[at];
+    let header = mem[header_at(s, c.variable)];
     if header == c.header {
-        let saved = saving(c, value, p);
-        return copy_on(s, c, saved);
+        copy_on(s, c, saving(c, value, p))
+    } else {
+        copy_cut_short(s, c, header, p)
     }
-    copy_cut_short(s, c, header, p)
 }

@@ -19,14 +19,13 @@ pub fn load_reads_header(s: Settings, p: Process, x: usize, mem: &[u64]) -> Answ
     requires { Sized s × (used_by Many s ≤ length mem.now) × (x < s.t) }
     ensures { result ≡ (load_reads_header s p x mem.now).0 }
 {
-    let at = header_at(s, x);
-    let header = mem[at];
+    let header = mem[header_at(s, x)];
     let tag = s.layout.tag_of(header);
     let kept = keeping(x, tag, gathering_anew(p));
     let opened = opening(x, kept);
     let c = Copy {
         variable: x,
-        header: header,
+        header,
         segment: 0,
         gathers: true,
     };
@@ -38,12 +37,11 @@ pub fn validate_reads_header(s: Settings, p: Process, x: usize, mem: &[u64]) -> 
     requires { Sized s × (used_by Many s ≤ length mem.now) × (x < s.t) }
     ensures { result ≡ (validate_reads_header s p x mem.now).0 }
 {
-    let at = header_at(s, x);
-    let header = mem[at];
+    let header = mem[header_at(s, x)];
     let tag = s.layout.tag_of(header);
-    let kept = kept_of(x, p);
-    if tag == kept {
-        return ends(Answer::Yes, p);
+    if tag == kept_of(x, p) {
+        ends(Answer::Yes, p)
+    } else {
+        ends(Answer::No, p)
     }
-    ends(Answer::No, p)
 }

@@ -15,11 +15,9 @@ pub fn store_reads_header(s: Settings, p: Process, x: usize, mem: &[u64]) -> Ans
     requires { Sized s × (used_by Many s ≤ length mem.now) × (x < s.t) }
     ensures { result ≡ (store_reads_header s p x mem.now).0 }
 {
-    let at = header_at(s, x);
-    let header = mem[at];
+    let header = mem[header_at(s, x)];
     let tag = s.layout.tag_of(header);
-    let kept = kept_of(x, p);
-    if tag != kept {
+    if tag != kept_of(x, p) {
         return ends(Answer::No, closing(x, p));
     }
     goes_on(Place::StoreAnnounces(x, header, 0), p)
@@ -38,15 +36,16 @@ pub fn store_announces(
     requires { Sized s × (used_by Many s ≤ length mem.old) × (me < s.n) × (i < s.w) }
     ensures { ◌≡◌ {A = Step} (result, mem.new) (store_announces s p me x header i mem.old) }
 {
-    let at = announce_at(s, me, i);
-    mem[at] = p.values[i];
+    mem[announce_at(s, me, i)] = p.values[i];
     if i + 1 < s.w {
-        return goes_on(Place::StoreAnnounces(x, header, i + 1), p);
+        goes_on(Place::StoreAnnounces(x, header, i + 1), p)
+    } else {
+        goes_on(Place::StoreSwapsHeader(x, header), p)
     }
-    goes_on(Place::StoreSwapsHeader(x, header), p)
 }
 
 // 18: the next tag of the header read, and the own number.
+#[tactic(auto, using(word::proofs::Laws::tag_lt))]
 fn new_header(s: Settings, me: usize, header: u64) -> u64
     requires { Sized s × (me < s.n) }
     ensures { result ≡ new_header s me header }
@@ -78,7 +77,8 @@ pub fn store_swaps_header(
             segment: 0,
             gathers: false,
         };
-        return goes_on(Place::ReadsSegment(c), p);
+        goes_on(Place::ReadsSegment(c), p)
+    } else {
+        ends(Answer::No, closing(x, p))
     }
-    ends(Answer::No, closing(x, p))
 }

@@ -27,20 +27,20 @@ pub fn validate_reads_word(s: Settings, p: Process, x: usize, mem: &[u64]) -> An
     requires { Sized s × (x < s.t) × (s.t ≤ length mem.now) }
     ensures { result ≡ (validate_reads_word s p x mem.now).0 }
 {
-    let kept = kept_of(x, p);
-    if mem[x] == kept {
-        return ends(Answer::Yes, p);
+    if mem[x] == kept_of(x, p) {
+        ends(Answer::Yes, p)
+    } else {
+        ends(Answer::No, p)
     }
-    ends(Answer::No, p)
 }
 
 // Line 4: the next tag of the keep-word, and the new value.
+#[tactic(auto, using(word::proofs::Laws::tag_lt, word::proofs::Laws::next_lt))]
 fn new_word(s: Settings, p: Process, x: usize) -> u64
     requires { Sized s × (x < s.t) × (get_or p.values 0 0 < value_limit (bits s)) }
     ensures { result ≡ new_word s p x }
 {
-    let kept = kept_of(x, p);
-    let old = s.layout.tag_of(kept);
+    let old = s.layout.tag_of(kept_of(x, p));
     let next = s.layout.next_tag(old);
     s.layout.word_of(next, p.values[0])
 }
@@ -50,10 +50,10 @@ pub fn store_swaps_word(s: Settings, p: Process, x: usize, mem: &mut [u64]) -> A
     requires { Sized s × (x < s.t) × (s.t ≤ length mem.old) × (get_or p.values 0 0 < value_limit (bits s)) }
     ensures { ◌≡◌ {A = Step} (result, mem.new) (store_swaps_word s p x mem.old) }
 {
-    let kept = kept_of(x, p);
-    if mem[x] == kept {
+    if mem[x] == kept_of(x, p) {
         mem[x] = new_word(s, p, x);
-        return ends(Answer::Yes, closing(x, p));
+        ends(Answer::Yes, closing(x, p))
+    } else {
+        ends(Answer::No, closing(x, p))
     }
-    ends(Answer::No, closing(x, p))
 }
