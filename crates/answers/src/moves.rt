@@ -3,11 +3,11 @@ ghost use Rattle.std.specs.Prelude.{◌≡◌, true, List, ℕ, ◌≤◌, ◌<�
 ghost use Rattle.rules.specs.Bounds.{Sized};
 ghost use Rattle.rules.specs.Figure4.{Step};
 ghost use Rattle.rules.specs.GoodForm.{process_fits};
-ghost use Rattle.rules.specs.Processes.{refusing};
 ghost use Rattle.rules.specs.Sizes.{words_used};
 ghost use Rattle.answers.specs.Moves.{slot_in, slot_of, begins, steps, move_of};
 
 use calls::begin_process;
+use process::refusing;
 use record::Entry;
 use rules::{Answered, Call, Process, Settings, Values};
 use steps::process_step;
@@ -28,16 +28,6 @@ pub fn slot(entry: Result<Entry, Refusal>, n: usize) -> usize
     match entry {
         Ok(Entry::Begin { process, .. } | Entry::Step(process)) => slot_in(process, n),
         Err(_) => 0,
-    }
-}
-
-// A refused process is left as found.
-fn refusing(p: Process, refusal: Refusal) -> Answered<Process>
-    ensures { result ≡ refusing p refusal }
-{
-    Answered {
-        after: p,
-        answer: Err(refusal),
     }
 }
 

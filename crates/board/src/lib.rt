@@ -9,6 +9,7 @@ ghost use Rattle.rules.specs.declared.Board.{Board};
 
 use calls::{begin_process, sequences_open};
 use checks::process_check;
+use process::refusing;
 use rules::{Answered, Board, Call, Process, Values};
 use steps::process_step;
 use word::Refusal;
@@ -26,7 +27,7 @@ fn put_back(board: Board, me: usize, moved: Answered<Process>) -> Answered<Board
     let mut after = board;
     after.processes[me] = moved.after;
     Answered {
-        after: after,
+        after,
         answer: moved.answer,
     }
 }
@@ -41,10 +42,7 @@ pub fn begin(board: Board, me: usize, call: Call, values: Values, mem: &[u64]) -
             let moved = begin_process(board.settings, board.processes[me], call, values);
             put_back(board, me, moved)
         }
-        Err(refusal) => Answered {
-            after: board,
-            answer: Err(refusal),
-        },
+        Err(refusal) => refusing(board, refusal),
     }
 }
 
@@ -58,10 +56,7 @@ pub fn step(board: Board, me: usize, mem: &mut [u64]) -> Answered<Board>
             let moved = process_step(board.settings, board.processes[me], me, mem);
             put_back(board, me, moved)
         }
-        Err(refusal) => Answered {
-            after: board,
-            answer: Err(refusal),
-        },
+        Err(refusal) => refusing(board, refusal),
     }
 }
 

@@ -9,6 +9,7 @@ ghost use Rattle.rules.specs.Bounds.{Sized};
 ghost use Rattle.rules.specs.GoodForm.{open_fits};
 ghost use Rattle.rules.specs.Processes.{open_count};
 
+use process::refusing;
 use refusals::call_check;
 use rules::{Answer, Answered, Call, Process, Settings, Values};
 use steps::beginning;
@@ -26,10 +27,7 @@ pub fn begin_process(s: Settings, p: Process, call: Call, values: Values) -> Ans
             after: beginning(s, call, values, p),
             answer: Ok(Answer::Begun),
         },
-        Err(refusal) => Answered {
-            after: p,
-            answer: Err(refusal),
-        },
+        Err(refusal) => refusing(p, refusal),
     }
 }
 

@@ -22,10 +22,7 @@ impl Within {
     fn place_of(self, kind: Kind, x: usize) -> bool
         ensures { result ≡ (if is_one kind then one_place self.s x else many_place self.s x) }
     {
-        match (kind, self.s.kind) {
-            (Kind::One, Kind::One) | (Kind::Many, Kind::Many) => x < self.s.t,
-            _ => false,
-        }
+        self.s.kind == kind && x < self.s.t
     }
 
     // .. and its sequence is open.

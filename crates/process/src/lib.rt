@@ -3,9 +3,10 @@
 #![tactic(auto)]
 
 ghost use Rattle.std.specs.Prelude.{◌≡◌, ◌<◌};
-ghost use Rattle.rules.specs.Processes.{is_open, with_open, with_closed, at, opening, closing, keeping, kept_of, gathering, gathering_anew, goes_on, ends};
+ghost use Rattle.rules.specs.Processes.{is_open, with_open, with_closed, at, opening, closing, keeping, kept_of, gathering, gathering_anew, goes_on, ends, refusing};
 
 use rules::{Answer, Answered, Place, Process};
+use word::Refusal;
 
 pub mod addresses; // addresses.rt: where the shared words of kind `many` lie
 
@@ -108,5 +109,15 @@ pub fn ends(answer: Answer, p: Process) -> Answered<Process>
     Answered {
         after: at_place(Place::Idle, p),
         answer: Ok(answer),
+    }
+}
+
+// A refusal leaves a process, or a board, as found.
+pub fn refusing<S: Copy>(state: S, refusal: Refusal) -> Answered<S>
+    ensures { result ≡ refusing state refusal }
+{
+    Answered {
+        after: state,
+        answer: Err(refusal),
     }
 }

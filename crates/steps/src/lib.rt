@@ -12,6 +12,7 @@ use copy::{reads_announced, reads_header, reads_segment, reads_segment_again, sw
 use many::store::{store_announces, store_reads_header, store_swaps_header};
 use many::{load_reads_header, validate_reads_header};
 use one::{load_reads_word, store_swaps_word, validate_reads_word};
+use process::refusing;
 use rules::{Answered, Call, Kind, Place, Process, Settings, Values};
 use word::Refusal;
 
@@ -45,10 +46,7 @@ pub fn process_step(s: Settings, p: Process, me: usize, mem: &mut [u64]) -> Answ
     ensures { ◌≡◌ {A = Step} (result, mem.new) (process_step s p me mem.old) }
 {
     match p.place {
-        Place::Idle => Answered {
-            after: p,
-            answer: Err(Refusal::ProcessIdle),
-        },
+        Place::Idle => refusing(p, Refusal::ProcessIdle),
         Place::LoadReadsWord(x) => load_reads_word(s, p, x, &mem[..]),
         Place::ValidateReadsWord(x) => validate_reads_word(s, p, x, &mem[..]),
         Place::StoreSwapsWord(x) => store_swaps_word(s, p, x, mem),

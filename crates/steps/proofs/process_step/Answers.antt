@@ -1,12 +1,13 @@
 -- `process_step` meets its contract: each place has its function, which may be called there, and a step is that of its
 -- place. Assumes nothing.
-use mathlib.Core.Path.{◌≡◌, refl}
+use mathlib.Core.Path.{◌≡◌, refl, ap}
 use mathlib.Core.Bool.{true}
 use Prim.Native.Nat.{ℕ, ◌≤◌, ◌<◌}
 use borrow.Author.Rules.{rules}
 use Rattle.rules.specs.Bounds.{Sized}
 use Rattle.rules.specs.GoodForm.{process_fits}
 use Rattle.rules.specs.Sizes.{words_used}
+use Rattle.rules.specs.declared.Answered.{Answered}
 use Rattle.rules.specs.declared.Process.{Process}
 use Rattle.rules.specs.declared.Settings.{Settings}
 use Rattle.steps.proofs.Places as places
@@ -62,7 +63,8 @@ reads_header-requires c = places.reads_header_lem (ready c.requires) _ _ c.in-Re
 
 pub returns-in-Idle : goal.returns-in-Idle
 returns-in-Idle c =
-    places.step_from_lem c.args.s c.args.p c.args.me c.args.mem.now c.in-Idle.is refl
+    places.step_from_lem c.args.s c.args.p c.args.me c.args.mem.now c.in-Idle.is
+    (ap (λ (r : Answered Process). (r, c.args.mem.now)) c.refusing.ensures)
 
 pub returns-in-LoadReadsWord : goal.returns-in-LoadReadsWord
 returns-in-LoadReadsWord c =
