@@ -24,11 +24,9 @@ fn fresh_process() -> Process
 fn fresh_board(s: Settings) -> Board
     ensures { result ≡ fresh_board s }
 {
-    let p = fresh_process();
-    let processes = [p; 16];
     Board {
         settings: s,
-        processes: processes,
+        processes: [fresh_process(); 16],
     }
 }
 

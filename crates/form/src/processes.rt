@@ -35,7 +35,7 @@ impl Within {
     fn open_fits(self, opened: u16) -> bool
         ensures { result ≡ open_fits self.s opened }
     {
-        (opened as u64) < (1 << (self.s.t as u64))
+        u64::from(opened) < 1 << self.s.t
     }
 
     #[tactic(auto, unfolding(rules::specs::GoodForm::process_fits))]

@@ -15,7 +15,7 @@ pub fn is_open(mask: u16, x: usize) -> bool
     requires { x < 16 }
     ensures { result ≡ is_open mask x }
 {
-    (mask >> (x as u16)) % 2 == 1
+    (mask >> x) % 2 == 1
 }
 
 #[tactic(auto, using(crate::proofs::Bits::bit_set))]
@@ -23,7 +23,7 @@ fn with_open(mask: u16, x: usize) -> u16
     requires { x < 16 }
     ensures { result ≡ with_open mask x }
 {
-    mask | (1 << (x as u16))
+    mask | (1 << x)
 }
 
 #[tactic(auto, using(crate::proofs::Bits::bit_cleared))]
@@ -31,7 +31,7 @@ fn with_closed(mask: u16, x: usize) -> u16
     requires { x < 16 }
     ensures { result ≡ with_closed mask x }
 {
-    mask & !(1 << (x as u16))
+    mask & !(1 << x)
 }
 
 fn at_place(place: Place, p: Process) -> Process
