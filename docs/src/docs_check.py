@@ -1,17 +1,18 @@
 #!/usr/bin/env python3
 """Check that the documents name what is there: docs_check.py
 
-In README.md and docs/*.md, but for PORT.md, which speaks of what was, every link leads to a file; every path below crates/, docs/ and examples/ is there; every
-name of a source file between backticks ends the path of one; every other name between backticks (a span that is one
-name, or names joined by :: or /) is somewhere in the sources, or is an edit, an example or a crate; every edit of a table
-of edits is there; every row of a printout that GUIDE.md shows is a row of a printout of examples/; and AUDIT.md's counts
-of lines are those of the files. What the sentences say it cannot check.
+In README.md and docs/*.md, but for PORT.md and DESIGN-PASS.md, which speak of what was, every link leads to a file; every
+path below crates/, docs/ and examples/ is there; every name of a source file between backticks ends the path of one; every
+other name between backticks (a span that is one name, or names joined by :: or /) is somewhere in the sources, or is an
+edit, an example or a crate; every edit of a table of edits is there; every row of a printout that GUIDE.md shows is a row
+of a printout of examples/; and AUDIT.md's counts of lines are those of the files. What the sentences say it cannot check.
 """
 import pathlib
 import re
 import sys
 
-DOCUMENTS = [pathlib.Path("README.md"), *sorted(p for p in pathlib.Path("docs").glob("*.md") if p.name != "PORT.md")]
+OF_THE_PAST = ("PORT.md", "DESIGN-PASS.md")
+DOCUMENTS = [pathlib.Path("README.md"), *sorted(p for p in pathlib.Path("docs").glob("*.md") if p.name not in OF_THE_PAST)]
 SOURCES = [
     path
     for folder in ("crates", "docs/src", "examples", ".ci")
