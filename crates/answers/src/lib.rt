@@ -20,6 +20,7 @@ use rows::row_by;
 pub use rows::{nobodys_row, set_up_row};
 use rules::{Board, Process, Settings};
 use word::Refusal;
+use writing::Writer;
 
 // A run waits for its set-up, runs on its board, or is over.
 #[derive(Clone, Copy)]
@@ -29,13 +30,6 @@ pub enum Stage {
     Over,
 }
 
-// A process or a run after a record, and how many bytes the output then holds.
-#[derive(Clone, Copy)]
-pub struct Printed<S> {
-    pub after: S,
-    pub len: usize,
-}
-
 #[tactic(auto, using(rules::proofs::GoodForm::Held::in_form_lem))]
 pub fn answer(
     number: u64,
@@ -43,16 +37,13 @@ pub fn answer(
     entry: Result<Entry, Refusal>,
     p: Process,
     mem: &mut [u64],
-    out: &mut [u8],
-    len: usize,
-) -> Printed<Process>
-    requires { Sized s × (words_used s ≤ length mem.old) × Sound s p × Clean s mem.old × (longest_row ≤ length out.old - len) }
-    ensures { Answers number s entry p mem.old out.old len result.after mem.new out.new result.len }
+    out: &mut Writer,
+) -> Process
+    requires { Sized s × (words_used s ≤ length mem.old) × Sound s p × Clean s mem.old
+        × (longest_row ≤ length out.old.bytes.now - out.old.len) }
+    ensures { Answers number s entry p mem.old out.old result mem.new out.new }
 {
     let moved = moves(s, entry, p, mem);
-    let next = put_row(row_by(number, s, entry, moved), out, len);
-    Printed {
-        after: moved.after,
-        len: next,
-    }
+    put_row(row_by(number, s, entry, moved), out);
+    moved.after
 }

@@ -4,14 +4,15 @@
 mod row_fields;
 mod value_fields;
 
-ghost use Rattle.std.specs.Prelude.{◌≡◌, ◌-◌};
+ghost use Rattle.std.specs.Prelude.{◌≡◌};
+ghost use Rattle.writing.specs.Put.{SameLent};
 ghost use Rattle.printout.specs.Writing.{Written, put_row, put_heading};
 
 use record::Act;
 use row_fields::put_fields;
 use rules::Answer;
 use word::Refusal;
-use writing::put;
+use writing::Writer;
 
 // Whose record a row tells of: nobody's after 10, 11 and 12, the set-up, or a process with its act.
 #[derive(Clone, Copy)]
@@ -36,29 +37,25 @@ pub const LONGEST_ROW: usize = 159;
 
 const HEADING_LENGTH: usize = 40;
 
-// The room from `at` on.
-fn room(lent: usize, at: usize) -> usize
-    ensures { result ≡ lent - at }
+// Where there is no room for the longest row, nothing is written.
+#[tactic(auto, using(crate::proofs::Longest::row_at_most))]
+pub fn put_row(row: Row, out: &mut Writer)
+    ensures written { ◌≡◌ {A = Written} (out.new.bytes.now, out.new.len) (put_row row out.old.bytes.now out.old.len) }
+    ensures same { SameLent out.old out.new }
 {
-    lent.saturating_sub(at)
+    if out.room() < LONGEST_ROW {
+        return;
+    }
+    put_fields(row, out);
 }
 
-// Where there is no room for the longest row, nothing is written and `at` comes back.
-pub fn put_row(row: Row, out: &mut [u8], at: usize) -> usize
-    ensures { ◌≡◌ {A = Written} (out.new, result) (put_row row out.old at) }
+// Where there is no room for the heading, nothing is written.
+pub fn put_heading(out: &mut Writer)
+    ensures written { ◌≡◌ {A = Written} (out.new.bytes.now, out.new.len) (put_heading out.old.bytes.now out.old.len) }
+    ensures same { SameLent out.old out.new }
 {
-    if room(out.len(), at) < LONGEST_ROW {
-        return at;
+    if out.room() < HEADING_LENGTH {
+        return;
     }
-    put_fields(row, out, at)
-}
-
-// Where there is no room for the heading, nothing is written and `at` comes back.
-pub fn put_heading(out: &mut [u8], at: usize) -> usize
-    ensures { ◌≡◌ {A = Written} (out.new, result) (put_heading out.old at) }
-{
-    if room(out.len(), at) < HEADING_LENGTH {
-        return at;
-    }
-    put(b"no,process,act,answer,open,v0,v1,v2,v3\r\n", out, at)
+    out.put(b"no,process,act,answer,open,v0,v1,v2,v3\r\n");
 }

@@ -3,7 +3,7 @@ ghost use Rattle.std.specs.Prelude.{◌++◌, ◌+◌, ◌≤◌, length};
 ghost use Rattle.record.specs.Words.{act_word};
 ghost use Rattle.rules.specs.Answers.{answer_word};
 ghost use Rattle.writing.specs.Line.{after_comma};
-ghost use Rattle.writing.specs.Put.{Put};
+ghost use Rattle.writing.specs.Put.{Puts};
 ghost use Rattle.printout.specs.Row.{process_field, act_field, row_of};
 
 use super::value_fields::{put_numbers, put_optional};
@@ -11,58 +11,59 @@ use super::{Row, Who};
 use record::Act;
 use rules::Answer;
 use word::Refusal;
-use writing::{put, put_decimal, put_number};
+use writing::Writer;
 
-fn put_act(act: Act, out: &mut [u8], at: usize) -> usize
-    requires { at + length (after_comma (act_word act)) ≤ length out.old }
-    ensures { Put out.old at (after_comma (act_word act)) out.new result }
+fn put_act(act: Act, out: &mut Writer)
+    requires { out.old.len + length (after_comma (act_word act)) ≤ length out.old.bytes.now }
+    ensures { Puts out.old (after_comma (act_word act)) out.new }
 {
     match act {
-        Act::Load => put(b",LL", out, at),
-        Act::Validate => put(b",VL", out, at),
-        Act::Store => put(b",SC", out, at),
-        Act::Step => put(b",step", out, at),
+        Act::Load => out.put(b",LL"),
+        Act::Validate => out.put(b",VL"),
+        Act::Store => out.put(b",SC"),
+        Act::Step => out.put(b",step"),
     }
 }
 
 // Process and act.
-fn put_who(who: Who, out: &mut [u8], at: usize) -> usize
-    requires { at + length (after_comma (process_field who) ++ after_comma (act_field who)) ≤ length out.old }
-    ensures { Put out.old at (after_comma (process_field who) ++ after_comma (act_field who)) out.new result }
+fn put_who(who: Who, out: &mut Writer)
+    requires { out.old.len + length (after_comma (process_field who) ++ after_comma (act_field who)) ≤ length out.old.bytes.now }
+    ensures { Puts out.old (after_comma (process_field who) ++ after_comma (act_field who)) out.new }
 {
     match who {
-        Who::Nobody => put(b",,", out, at),
-        Who::SetUp => put(b",,setup", out, at),
+        Who::Nobody => out.put(b",,"),
+        Who::SetUp => out.put(b",,setup"),
         Who::Process(process, act) => {
-            let next = put_number(process, out, at);
-            put_act(act, out, next)
+            out.put_number(process);
+            put_act(act, out);
         }
     }
 }
 
-fn put_answer(answer: Result<Answer, Refusal>, out: &mut [u8], at: usize) -> usize
-    requires { at + length (after_comma (answer_word answer)) ≤ length out.old }
-    ensures { Put out.old at (after_comma (answer_word answer)) out.new result }
+fn put_answer(answer: Result<Answer, Refusal>, out: &mut Writer)
+    requires { out.old.len + length (after_comma (answer_word answer)) ≤ length out.old.bytes.now }
+    ensures { Puts out.old (after_comma (answer_word answer)) out.new }
 {
     match answer {
-        Ok(Answer::Begun) => put(b",begun", out, at),
-        Ok(Answer::Busy) => put(b",busy", out, at),
-        Ok(Answer::Value(_)) => put(b",value", out, at),
-        Ok(Answer::Witness(_)) => put(b",witness", out, at),
-        Ok(Answer::Yes) => put(b",yes", out, at),
-        Ok(Answer::No) => put(b",no", out, at),
-        Err(_) => put(b",refused", out, at),
+        Ok(Answer::Begun) => out.put(b",begun"),
+        Ok(Answer::Busy) => out.put(b",busy"),
+        Ok(Answer::Value(_)) => out.put(b",value"),
+        Ok(Answer::Witness(_)) => out.put(b",witness"),
+        Ok(Answer::Yes) => out.put(b",yes"),
+        Ok(Answer::No) => out.put(b",no"),
+        Err(_) => out.put(b",refused"),
     }
 }
 
 // A whole row, from its number to the end of its line.
-pub(crate) fn put_fields(row: Row, out: &mut [u8], at: usize) -> usize
-    requires { at + length (row_of row) ≤ length out.old }
-    ensures { Put out.old at (row_of row) out.new result }
+#[tactic(auto, using(crate::proofs::Rows::length_row))]
+pub(crate) fn put_fields(row: Row, out: &mut Writer)
+    requires { out.old.len + length (row_of row) ≤ length out.old.bytes.now }
+    ensures { Puts out.old (row_of row) out.new }
 {
-    let at_process = put_decimal(row.number, out, at);
-    let at_answer = put_who(row.who, out, at_process);
-    let at_open = put_answer(row.answer, out, at_answer);
-    let at_v0 = put_optional(row.open, out, at_open);
-    put_numbers(row.answer, row.w, out, at_v0)
+    out.put_decimal(row.number);
+    put_who(row.who, out);
+    put_answer(row.answer, out);
+    put_optional(row.open, out);
+    put_numbers(row.answer, row.w, out);
 }

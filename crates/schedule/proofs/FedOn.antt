@@ -13,9 +13,10 @@ use Rattle.std.specs.Prelude.{Result, Ok, Err}
 use Rattle.word.specs.declared.Refusal.{Refusal}
 use Rattle.rules.specs.declared.Settings.{Settings}
 use Rattle.record.specs.Setup.{settings_of}
+use Rattle.writing.specs.declared.writer.Writer.{Writer}
 use Rattle.printout.specs.Writing.{longest_row}
 use Rattle.schedule.specs.Telling.{Tells}
-use Rattle.schedule.specs.Feeding.{Feeding, run_of, feeding, telling, is_full, stage_number, same_stage, feed_of}
+use Rattle.schedule.specs.Feeding.{Feeding, run_of, feeding_to, telling, is_full, stage_number, same_stage, feed_of}
 use Rattle.schedule.specs.Gathering.{Held, bytes_of, gather_of}
 use Rattle.answers.specs.Run.{Run, by_set_up, by_settings, set_up_told, record_told}
 use Rattle.schedule.specs.declared.Session.{Session}
@@ -31,44 +32,44 @@ pub has_room : (f : Feeding) → longest_row ≤ length f.out - f.len → is_ful
 unfolding is_full
 has_room f room = le-ltb (length f.out - f.len) longest_row room
 
-module _ (session : Session) (line words out : List ℕ) (len : ℕ) (bytes : List ℕ) (h : Held) (left : List ℕ) (closed : Bool)
-    (room : longest_row ≤ length out - len) (reads : Reads session.stage)
+module _ (session : Session) (line words : List ℕ) (out : Writer) (bytes : List ℕ) (h : Held) (left : List ℕ) (closed : Bool)
+    (room : longest_row ≤ length out.bytes.now - out.len) (reads : Reads session.stage)
     (g : record { held = h; left = left; closed = closed } ≡ gather_of (record { line = line; held = session.held; cr = session.cr }) bytes) where
-  gathered : feed_of (feeding session line words out len) bytes
-      ≡ after_gathering (feeding session line words out len) (record { held = h; left = left; closed = closed })
+  gathered : feed_of (feeding_to session line words out) bytes
+      ≡ after_gathering (feeding_to session line words out) (record { held = h; left = left; closed = closed })
   gathered =
-      feed_gather (feeding session line words out len) bytes (has_room (feeding session line words out len) room) reads
-      ∙ ap (after_gathering (feeding session line words out len)) (sym g)
+      feed_gather (feeding_to session line words out) bytes (has_room (feeding_to session line words out) room) reads
+      ∙ ap (after_gathering (feeding_to session line words out)) (sym g)
 
   -- the bytes ended first
   pub fed_open : closed ≡ false
-      → (feeding (record { stage = session.stage; count = session.count; held = h.held; cr = h.cr }) h.line words out len, left)
-      ≡ feed_of (feeding session line words out len) bytes
-  fed_open e = sym (gathered ∙ ap (λ (t : Bool). after_gathering (feeding session line words out len) (record { held = h; left = left; closed = t })) e)
+      → (feeding_to (record { stage = session.stage; count = session.count; held = h.held; cr = h.cr }) h.line words out, left)
+      ≡ feed_of (feeding_to session line words out) bytes
+  fed_open e = sym (gathered ∙ ap (λ (t : Bool). after_gathering (feeding_to session line words out) (record { held = h; left = left; closed = t })) e)
 
-  module _ (after : Session) (words_after out_after : List ℕ) (next : ℕ) (e : closed ≡ true)
-      (k : Tells (record_told (run_of session words) (bytes_of h)) out len after words_after out_after next) where
-    answered_on : feed_of (feeding session line words out len) bytes
-        ≡ goes_on (run_of session words) (feeding after h.line words_after out_after next) left
+  module _ (after : Session) (words_after : List ℕ) (out_after : Writer) (e : closed ≡ true)
+      (k : Tells (record_told (run_of session words) (bytes_of h)) out after words_after out_after) where
+    answered_on : feed_of (feeding_to session line words out) bytes
+        ≡ goes_on (run_of session words) (feeding_to after h.line words_after out_after) left
     unfolding telling
     answered_on =
         gathered
-        ∙ ap (λ (t : Bool). after_gathering (feeding session line words out len) (record { held = h; left = left; closed = t })) e
+        ∙ ap (λ (t : Bool). after_gathering (feeding_to session line words out) (record { held = h; left = left; closed = t })) e
         ∙ ap (λ (f : Feeding). goes_on (run_of session words) f left)
-        (sym (tells_feeding (record_told (run_of session words) (bytes_of h)) session after h.line words words_after out out_after len next k))
+        (sym (tells_feeding (record_told (run_of session words) (bytes_of h)) session after h.line words words_after out out_after k))
 
     abbrev either : Bool → Feeding × List ℕ
     either same =
-        cond same (feed_of (feeding after h.line words_after out_after next) left)
-        (feeding after h.line words_after out_after next, left)
+        cond same (feed_of (feeding_to after h.line words_after out_after) left)
+        (feeding_to after h.line words_after out_after, left)
 
     -- the stage has changed, or not
     pub fed_left : same_stage (run_of session words) (run_of after words_after) ≡ false
-        → (feeding after h.line words_after out_after next, left) ≡ feed_of (feeding session line words out len) bytes
+        → (feeding_to after h.line words_after out_after, left) ≡ feed_of (feeding_to session line words out) bytes
     fed_left other = sym (answered_on ∙ ap either other)
 
     pub fed_on : same_stage (run_of session words) (run_of after words_after) ≡ true
-        → feed_of (feeding after h.line words_after out_after next) left ≡ feed_of (feeding session line words out len) bytes
+        → feed_of (feeding_to after h.line words_after out_after) left ≡ feed_of (feeding_to session line words out) bytes
     fed_on same = sym (answered_on ∙ ap either same)
 
 -- stages that differ, and stages that do not
@@ -87,10 +88,10 @@ settings_leave run (Ok s) a e = left_waiting run (set_up_rule s run.words).0 _ a
 settings_leave run (Err why) a e = stage_is a (by_settings run (Err why)).run Waiting Over e refl
 
 -- a set-up record ends the waiting
-pub set_up_leaves : (session after : Session) (words words_after bytes out out_after : List ℕ) (len next : ℕ) → session.stage ≡ Waiting
-    → Tells (set_up_told (run_of session words) bytes) out len after words_after out_after next
+pub set_up_leaves : (session after : Session) (words words_after bytes : List ℕ) (out out_after : Writer) → session.stage ≡ Waiting
+    → Tells (set_up_told (run_of session words) bytes) out after words_after out_after
     → same_stage (run_of session words) (run_of after words_after) ≡ false
 unfolding set_up_told same_stage
-set_up_leaves session after words words_after bytes out out_after len next e k =
+set_up_leaves session after words words_after bytes out out_after e k =
     ap (λ (s : Session). same_stage (run_of session words) (run_of s words_after)) k.session
     ∙ settings_leave (run_of session words) (settings_of bytes) (run_of session words) e

@@ -9,10 +9,11 @@ use borrow.Author.Tests.{ltb-false}
 use lib.Dec.{ltb}
 use lib.ListN.{length, drop, length-drop, drop_of_length-le}
 use Rattle.rules.specs.declared.Board.{Board}
+use Rattle.writing.specs.declared.writer.Writer.{Writer}
 use Rattle.printout.specs.Writing.{longest_row}
 use Rattle.printout.specs.declared.Row.{Row}
 use Rattle.schedule.specs.Telling.{EndsWithRow}
-use Rattle.schedule.specs.Feeding.{Feeding, feeding, is_full, feed_of}
+use Rattle.schedule.specs.Feeding.{Feeding, feeding_to, is_full, feed_of}
 use Rattle.schedule.specs.Gathering.{Held, Gathered, line_length, put, closes, gather_of}
 use Rattle.answers.specs.Order.{InOrder}
 use Rattle.schedule.specs.Ready.{Ready}
@@ -70,15 +71,15 @@ none_left f left e = subst (λ (l : List ℕ). feed_of f l ≡ (f, l)) (sym e) r
 pub used_up : (f : Feeding) (chunk : List ℕ) (at : ℕ) → length chunk ≤ at → (f, drop at chunk) ≡ feed_of f (drop at chunk)
 used_up f chunk at l = sym (none_left f (drop at chunk) (drop_of_length-le chunk l))
 
-pub open_on : (board : Board) (count held : ℕ) (cr : Bool) (line words out : List ℕ) (len : ℕ) (bytes : List ℕ) (h : Held) (left : List ℕ) (closed : Bool)
-    → longest_row ≤ length out - len
+pub open_on : (board : Board) (count held : ℕ) (cr : Bool) (line words : List ℕ) (out : Writer) (bytes : List ℕ) (h : Held) (left : List ℕ) (closed : Bool)
+    → longest_row ≤ length out.bytes.now - out.len
     → record { held = h; left = left; closed = closed } ≡ gather_of (record { line = line; held = held; cr = cr }) bytes → closed ≡ false
-    → feed_of (feeding (running board count h.held h.cr) h.line words out len) left ≡ feed_of (feeding (running board count held cr) line words out len) bytes
-open_on board count held cr line words out len bytes h left closed room g e =
+    → feed_of (feeding_to (running board count h.held h.cr) h.line words out) left ≡ feed_of (feeding_to (running board count held cr) line words out) bytes
+open_on board count held cr line words out bytes h left closed room g e =
     let none : left ≡ [] =
     ap (λ (x : Gathered). x.left) g
     ∙ open_left (record { line = line; held = held; cr = cr }) bytes (sym (ap (λ (x : Gathered). x.closed) g) ∙ e) in
-    none_left _ left none ∙ opened board count held cr line words out len bytes h left closed room g e
+    none_left _ left none ∙ opened board count held cr line words out bytes h left closed room g e
 
 -- the room for a row, by its test
 pub is_full_lem : (f : Feeding) (t answer : Bool) → t ≡ ltb (length f.out - f.len) longest_row → t ≡ answer → is_full f ≡ answer
@@ -89,22 +90,17 @@ pub room : (free : ℕ) (t : Bool) → t ≡ ltb free longest_row → t ≡ fals
 room free t e q = ltb-false free longest_row (sym e ∙ q)
 
 -- a session that runs
-pub as_running : (board : Board) (session : Session) (line words out : List ℕ) (len : ℕ) (bytes : List ℕ) → session.stage ≡ Running board
-    → feed_of (feeding (running board session.count session.held session.cr) line words out len) bytes
-    ≡ feed_of (feeding session line words out len) bytes
-as_running board session line words out len bytes e =
-    ap (λ (s : Stage). feed_of (feeding (record { stage = s; count = session.count; held = session.held; cr = session.cr }) line words out len) bytes) (sym e)
+pub as_running : (board : Board) (session : Session) (line words : List ℕ) (out : Writer) (bytes : List ℕ) → session.stage ≡ Running board
+    → feed_of (feeding_to (running board session.count session.held session.cr) line words out) bytes
+    ≡ feed_of (feeding_to session line words out) bytes
+as_running board session line words out bytes e =
+    ap (λ (s : Stage). feed_of (feeding_to (record { stage = s; count = session.count; held = session.held; cr = session.cr }) line words out) bytes) (sym e)
 
 pub running_ready : (board : Board) (count held : ℕ) (cr : Bool) (line words : List ℕ)
     → InOrder board words → held ≤ line_length → length line ≡ line_length → Ready (running board count held cr) line words
 running_ready board count held cr line words o h l = record { order = o; held = h; long = l }
 
-pub ended_ready : (row : Row) (session after : Session) (out out_after line words : List ℕ) (len next : ℕ) → EndsWithRow row session out len after out_after next
+pub ended_ready : (row : Row) (session after : Session) (out out_after : Writer) (line words : List ℕ) → EndsWithRow row session out after out_after
     → length line ≡ line_length → Ready after line words
-ended_ready row session after out out_after line words len next k l =
+ended_ready row session after out out_after line words k l =
     subst (λ (s : Session). Ready s line words) (sym k.over) (record { order = tt; held = omega arith; long = l })
-
--- the place that the answer gives is the one that was reached
-pub placed : (f : Feeding) (chunk : List ℕ) (at next : ℕ) (all : Feeding × List ℕ) → at ≡ next → ◌≡◌ {A = Feeding × List ℕ} (f, drop next chunk) all
-    → ◌≡◌ {A = Feeding × List ℕ} (f, drop at chunk) all
-placed f chunk at next all same whole = ap (λ (n : ℕ). (f, drop n chunk)) same ∙ whole

@@ -18,10 +18,11 @@ use Rattle.record.specs.Entries.{schedule_of}
 use Rattle.record.specs.declared.entries.Entry.{Entry}
 use Rattle.std.specs.Prelude.{Result}
 use Rattle.word.specs.declared.Refusal.{Refusal}
+use Rattle.writing.specs.declared.writer.Writer.{Writer}
 use Rattle.printout.specs.Writing.{longest_row}
 use Rattle.answers.specs.Answering.{Answers}
 use Rattle.schedule.specs.Telling.{Tells, over_of, EndsWithRow}
-use Rattle.schedule.specs.Feeding.{run_of, feeding, feed_of}
+use Rattle.schedule.specs.Feeding.{run_of, feeding_to, feed_of}
 use Rattle.schedule.specs.Gathering.{Held, bytes_of, gather_of}
 use Rattle.answers.specs.Moves.{slot_of}
 use Rattle.answers.specs.Order.{InOrder}
@@ -40,15 +41,15 @@ abbrev pub running : Board → ℕ → ℕ → Bool → Session
 running board count held cr = record { stage = Running board; count = count; held = held; cr = cr }
 
 -- a running session after some bytes
-abbrev pub fed_running : Board → ℕ → ℕ → Bool → ℕ → ℕ → Fed
-fed_running board count held cr next len = record { session = running board count held cr; next = next; len = len }
+abbrev pub fed_running : Board → ℕ → ℕ → Bool → ℕ → Fed
+fed_running board count held cr next = record { session = running board count held cr; next = next }
 
 -- what feeding leaves, of what it returns
-pub feeds_as : (r right : Fed) {session : Session} {chunk line words out line_after words_after out_after : List ℕ} {at len : ℕ} → r ≡ right
-    → Feeds session chunk at line words out len right line_after words_after out_after
-    → Feeds session chunk at line words out len r line_after words_after out_after
-feeds_as r right {session} {chunk} {line} {words} {out} {line_after} {words_after} {out_after} {at} {len} e k =
-    subst (λ (x : Fed). Feeds session chunk at line words out len x line_after words_after out_after) (sym e) k
+pub feeds_as : (r right : Fed) {session : Session} {chunk line words line_after words_after : List ℕ} {out out_after : Writer} {at : ℕ} → r ≡ right
+    → Feeds session chunk at line words out right line_after words_after out_after
+    → Feeds session chunk at line words out r line_after words_after out_after
+feeds_as r right {session} {chunk} {line} {words} {line_after} {words_after} {out} {out_after} {at} e k =
+    subst (λ (x : Fed). Feeds session chunk at line words out x line_after words_after out_after) (sym e) k
 
 -- what answering on one process asks, from the order of the board
 pub record Served (s : Settings) (p : Process) (words : List ℕ) : Type 0 where
@@ -68,54 +69,54 @@ served board words o me mine =
       clean = clean_words board words o.form;
     }
 
-module _ (board : Board) (count held : ℕ) (cr : Bool) (line words out : List ℕ) (len : ℕ) (bytes : List ℕ) (h : Held) (left : List ℕ) (closed : Bool)
-    (room : longest_row ≤ length out - len)
+module _ (board : Board) (count held : ℕ) (cr : Bool) (line words : List ℕ) (out : Writer) (bytes : List ℕ) (h : Held) (left : List ℕ) (closed : Bool)
+    (room : longest_row ≤ length out.bytes.now - out.len)
     (g : record { held = h; left = left; closed = closed } ≡ gather_of (record { line = line; held = held; cr = cr }) bytes) where
   -- the bytes ended first
   pub opened : closed ≡ false
-      → (feeding (running board count h.held h.cr) h.line words out len, left) ≡ feed_of (feeding (running board count held cr) line words out len) bytes
-  opened e = fed_open (running board count held cr) line words out len bytes h left closed room (running_reads board) g e
+      → (feeding_to (running board count h.held h.cr) h.line words out, left) ≡ feed_of (feeding_to (running board count held cr) line words out) bytes
+  opened e = fed_open (running board count held cr) line words out bytes h left closed room (running_reads board) g e
 
   -- one record too many
-  pub too_many : (session after : Session) (out_after : List ℕ) (next : ℕ) → closed ≡ true → most_records ≤ count
+  pub too_many : (session after : Session) (out_after : Writer) → closed ≡ true → most_records ≤ count
       → session ≡ running board count h.held h.cr
-      → EndsWithRow (nobodys_row (most_records + 1) TooManyRecords) session out len after out_after next
-      → (feeding after h.line words out_after next, left) ≡ feed_of (feeding (running board count held cr) line words out len) bytes
-  too_many session after out_after next e many x k =
-      let moved : EndsWithRow (nobodys_row (most_records + 1) TooManyRecords) (running board count held cr) out len after out_after next =
-      record { over = k.over ∙ ap over_of x; bytes = k.bytes; place = k.place } in
-      let told = in_stage (running board count held cr) words out len (Running board) (bytes_of h) after words out_after next refl
-      (past_records board (running board count held cr) words out len (bytes_of h) after out_after next many moved) in
-      fed_left (running board count held cr) line words out len bytes h left closed room (running_reads board) g after words out_after next e told
+      → EndsWithRow (nobodys_row (most_records + 1) TooManyRecords) session out after out_after
+      → (feeding_to after h.line words out_after, left) ≡ feed_of (feeding_to (running board count held cr) line words out) bytes
+  too_many session after out_after e many x k =
+      let moved : EndsWithRow (nobodys_row (most_records + 1) TooManyRecords) (running board count held cr) out after out_after =
+      record { over = k.over ∙ ap over_of x; printed = k.printed } in
+      let told = in_stage (running board count held cr) words out (Running board) (bytes_of h) after words out_after refl
+      (past_records board (running board count held cr) words out (bytes_of h) after out_after many moved) in
+      fed_left (running board count held cr) line words out bytes h left closed room (running_reads board) g after words out_after e told
       (stage_is (run_of (running board count held cr) words) (run_of after words) (Running board) Over refl (ap (λ (s : Session). s.stage) k.over))
 
   -- a record answered
   module _ (o : InOrder board words) (s : Settings) (same : board.settings ≡ s) (read : Result Entry Refusal) (me : ℕ) (q : Process)
-      (words_after out_after : List ℕ) (next : ℕ) (e : closed ≡ true) (few : count < most_records)
+      (words_after : List ℕ) (out_after : Writer) (e : closed ≡ true) (few : count < most_records)
       (r : read ≡ schedule_of (bytes_of h) s.w) (at : me ≡ slot_of read s.n)
-      (k : Answers (count + 1) s read (process_at board me) words out len q words_after out_after next) where
-    told : Tells (record_told (run_of (running board count held cr) words) (bytes_of h)) out len (running (put_process board me q) (count + 1) 0 false) words_after out_after next
+      (k : Answers (count + 1) s read (process_at board me) words out q words_after out_after) where
+    told : Tells (record_told (run_of (running board count held cr) words) (bytes_of h)) out (running (put_process board me q) (count + 1) 0 false) words_after out_after
     told =
-        in_stage (running board count held cr) words out len (Running board) (bytes_of h) (running (put_process board me q) (count + 1) 0 false) words_after out_after next refl
-        (within_records board (running board count held cr) words out len (bytes_of h) read (running (put_process board me q) (count + 1) 0 false) words_after out_after next few
+        in_stage (running board count held cr) words out (Running board) (bytes_of h) (running (put_process board me q) (count + 1) 0 false) words_after out_after refl
+        (within_records board (running board count held cr) words out (bytes_of h) read (running (put_process board me q) (count + 1) 0 false) words_after out_after few
         (r ∙ ap (λ (z : Settings). schedule_of (bytes_of h) z.w) (sym same))
-        (read_tells board (running board count held cr) words o read out len me q words_after out_after next
+        (read_tells board (running board count held cr) words o read out me q words_after out_after
         (at ∙ ap (λ (z : Settings). slot_of read z.n) (sym same))
-        (subst (λ (z : Settings). Answers (count + 1) z read (process_at board me) words out len q words_after out_after next) (sym same) k)))
+        (subst (λ (z : Settings). Answers (count + 1) z read (process_at board me) words out q words_after out_after) (sym same) k)))
 
     order : InOrder (put_process board me q) words_after
     order =
-        session_order (record_told (run_of (running board count held cr) words) (bytes_of h)) out len (running (put_process board me q) (count + 1) 0 false)
-        words_after out_after next told (record_order (run_of (running board count held cr) words) (bytes_of h) o)
+        session_order (record_told (run_of (running board count held cr) words) (bytes_of h)) out (running (put_process board me q) (count + 1) 0 false)
+        words_after out_after told (record_order (run_of (running board count held cr) words) (bytes_of h) o)
 
-    answered_on : feed_of (feeding (running (put_process board me q) (count + 1) 0 false) h.line words_after out_after next) left
-        ≡ feed_of (feeding (running board count held cr) line words out len) bytes
+    answered_on : feed_of (feeding_to (running (put_process board me q) (count + 1) 0 false) h.line words_after out_after) left
+        ≡ feed_of (feeding_to (running board count held cr) line words out) bytes
     answered_on =
-        fed_on (running board count held cr) line words out len bytes h left closed room (running_reads board) g (running (put_process board me q) (count + 1) 0 false) words_after out_after next e told
+        fed_on (running board count held cr) line words out bytes h left closed room (running_reads board) g (running (put_process board me q) (count + 1) 0 false) words_after out_after e told
         (stage_is (run_of (running board count held cr) words) (run_of (running (put_process board me q) (count + 1) 0 false) words_after) (Running board) (Running (put_process board me q)) refl refl)
 
     -- the board is in order and has the same settings, and feeding goes on
     pub goes_on_lem : InOrder (put_process board me q) words_after × (board.settings ≡ s)
-        × (feed_of (feeding (running (put_process board me q) (count + 1) 0 false) h.line words_after out_after next) left
-        ≡ feed_of (feeding (running board count held cr) line words out len) bytes)
+        × (feed_of (feeding_to (running (put_process board me q) (count + 1) 0 false) h.line words_after out_after) left
+        ≡ feed_of (feeding_to (running board count held cr) line words out) bytes)
     goes_on_lem = (order, same, answered_on)

@@ -1,5 +1,5 @@
--- Two outcomes that a contract allows are equal: the session, the place of the next byte, how much of the output is written, and
--- all that is lent. Assumes nothing.
+-- Two outcomes that a contract allows are equal: the session, the place of the next byte, all that is lent, and how much of
+-- the output is written. Assumes nothing.
 use Prim.Native.Nat.{ℕ, ◌≤◌}
 use mathlib.Core.Path.{◌≡◌, ap}
 use mathlib.Core.List.{List}
@@ -8,7 +8,6 @@ use lib.ListN.{length, drop, length-drop}
 use Rattle.word.proofs.OneOutcome.{one_outcome, Settles}
 use Rattle.schedule.specs.Feeding.{Feeding}
 use Rattle.schedule.specs.declared.Session.{Session}
-use Rattle.answers.specs.declared.Printed.{Printed}
 use Rattle.schedule.specs.declared.Fed.{Fed}
 use Rattle.schedule.proofs.start.Kinds as start_kinds
 use Rattle.schedule.proofs.start.Reads as start
@@ -17,10 +16,11 @@ use Rattle.schedule.proofs.feed.Reads as feed
 use Rattle.schedule.proofs.finish.Kinds as finish_kinds
 use Rattle.schedule.proofs.finish.Reads as finish
 
-pub start_settles : Settles start_kinds.ps start_kinds.r (Printed Session × List ℕ) (λ κs r (out, _). (r, out.now)) start.Learnt
+pub start_settles : Settles start_kinds.ps start_kinds.r (Session × List ℕ × ℕ)
+    (λ κs r (out, _). (r, out.now.bytes.now, out.now.len)) start.Learnt
 start_settles κs args r s e f one other =
-    let written = one_outcome one.1 other.1 in
-    λ i. (record { after = one_outcome one.0 other.0 i; len = (written i).1 }, (written i).0)
+    let written = one_outcome one.1.0 other.1.0 in
+    λ i. (one_outcome one.0 other.0 i, (written i).0, (written i).1)
 
 -- nothing of a session is lost where it is fed
 abbrev session_in : Feeding → Session
@@ -32,20 +32,21 @@ same_place chunk next other within other_within left =
     let left_long : length (drop next chunk) ≡ length (drop other chunk) = ap (λ (l : List ℕ). length l) left in
     omega (arith, length-drop next chunk, length-drop other chunk)
 
-pub feed_settles : Settles feed_kinds.ps feed_kinds.r (Fed × List ℕ × List ℕ × List ℕ)
-    (λ κs r (_, (_, (_, (line, (mem, (out, _)))))). (r, line.now, mem.now, out.now)) feed.Learnt
+pub feed_settles : Settles feed_kinds.ps feed_kinds.r (Fed × List ℕ × List ℕ × List ℕ × ℕ)
+    (λ κs r (_, (_, (_, (line, (mem, (out, _)))))). (r, line.now, mem.now, out.now.bytes.now, out.now.len)) feed.Learnt
 feed_settles κs args r s e f one other =
     let fed = one_outcome one.fed other.fed in
     let next = same_place _ _ _ one.within other.within (ap (λ (x : Feeding × List ℕ). x.1) fed) in
     λ i. (
-      record { session = session_in (fed i).0; next = next i; len = (fed i).0.len },
+      record { session = session_in (fed i).0; next = next i },
       (fed i).0.held.line,
       (fed i).0.run.words,
       (fed i).0.out,
+      (fed i).0.len,
     )
 
-pub finish_settles : Settles finish_kinds.ps finish_kinds.r (Printed Session × List ℕ × List ℕ)
-    (λ κs r (_, (_, (mem, (out, _)))). (r, mem.now, out.now)) finish.Learnt
+pub finish_settles : Settles finish_kinds.ps finish_kinds.r (Session × List ℕ × List ℕ × ℕ)
+    (λ κs r (_, (_, (mem, (out, _)))). (r, mem.now, out.now.bytes.now, out.now.len)) finish.Learnt
 finish_settles κs args r s e f one other =
-    let fed = one_outcome one other in
-    λ i. (record { after = session_in (fed i); len = (fed i).len }, (fed i).run.words, (fed i).out)
+    let fed = one_outcome one.0 other.0 in
+    λ i. (session_in (fed i), (fed i).run.words, (fed i).out, (fed i).len)

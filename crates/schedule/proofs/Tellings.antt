@@ -29,8 +29,10 @@ use Rattle.printout.specs.declared.Row.{Row}
 use Rattle.word.specs.declared.Refusal.{Refusal}
 use Rattle.word.specs.declared.Refusal.TheVariants.{TooManyRecords}
 use Rattle.answers.specs.Answering.{Answers}
+use Rattle.writing.specs.Put.{Puts}
+use Rattle.writing.specs.declared.writer.Writer.{Writer}
 use Rattle.schedule.specs.Telling.{Tells, EndsWithRow}
-use Rattle.schedule.specs.Feeding.{run_of, session_of, feeding, telling}
+use Rattle.schedule.specs.Feeding.{run_of, session_of, feeding, feeding_to, telling}
 use Rattle.answers.specs.Moves.{slot_of, move_of, row_by}
 use Rattle.answers.specs.Order.{InOrder, OrderIn}
 use Rattle.answers.specs.Run.{Run, Told, ended, by_set_up, by_settings, set_up_told, nobodys_row, by_entry, most_records, too_many_told, schedule_told, told_in, record_told}
@@ -40,27 +42,26 @@ use Rattle.answers.specs.declared.Stage.TheVariants.{Waiting, Running, Over}
 use Rattle.answers.proofs.EntryTold.{entry_told, entry_order}
 
 -- a run that ends with a row
-pub ends_tell : (row right : Row) (session after : Session) (words words_after out out_after : List ℕ) (len next : ℕ)
-    → row ≡ right → EndsWithRow row session out len after out_after next
-    → Tells (record { printed = row_of right; run = ended (run_of session words) words_after }) out len after words_after out_after next
-ends_tell row right session after words words_after out out_after len next e k =
+pub ends_tell : (row right : Row) (session after : Session) (words words_after : List ℕ) (out out_after : Writer)
+    → row ≡ right → EndsWithRow row session out after out_after
+    → Tells (record { printed = row_of right; run = ended (run_of session words) words_after }) out after words_after out_after
+ends_tell row right session after words words_after out out_after e k =
     record {
       session = k.over;
       memory = refl;
-      bytes = k.bytes ∙ ap (λ (r : Row). sets out len (row_of r)) e;
-      place = k.place ∙ ap (λ (r : Row). len + length (row_of r)) e;
+      printed = subst (λ (r : Row). Puts out (row_of r) out_after) e k.printed;
     }
 
 -- a telling is what a session becomes
-pub tells_feeding : (told : Told) (session after : Session) (line words words_after out out_after : List ℕ) (len next : ℕ)
-    → Tells told out len after words_after out_after next
-    → feeding after line words_after out_after next ≡ telling (feeding session line words out len) told
+pub tells_feeding : (told : Told) (session after : Session) (line words words_after : List ℕ) (out out_after : Writer)
+    → Tells told out after words_after out_after
+    → feeding_to after line words_after out_after ≡ telling (feeding_to session line words out) told
 unfolding telling
-tells_feeding told session after line words words_after out out_after len next k =
-    ap (λ (s : Session). feeding s line words_after out_after next) k.session
-    ∙ ap (λ (w : List ℕ). feeding (session_of told.run) line w out_after next) k.memory
-    ∙ ap (λ (o : List ℕ). feeding (session_of told.run) line told.run.words o next) k.bytes
-    ∙ ap (λ (n : ℕ). feeding (session_of told.run) line told.run.words (sets out len told.printed) n) k.place
+tells_feeding told session after line words words_after out out_after k =
+    ap (λ (s : Session). feeding_to s line words_after out_after) k.session
+    ∙ ap (λ (w : List ℕ). feeding_to (session_of told.run) line w out_after) k.memory
+    ∙ ap (λ (o : List ℕ). feeding (session_of told.run) line told.run.words o out_after.len) k.printed.written.list
+    ∙ ap (λ (n : ℕ). feeding (session_of told.run) line told.run.words (sets out.bytes.now out.len told.printed) n) k.printed.written.place
 
 -- the order of a run after a record
 abbrev Orderly : Run → Type 0
@@ -111,21 +112,21 @@ unfolding record_told
 record_order run bytes o = told_order run.stage run bytes refl o
 
 -- .. of a session that tells it
-pub session_order : (told : Told) (out : List ℕ) (len : ℕ) (after : Session) (words out_after : List ℕ) (next : ℕ)
-    → Tells told out len after words out_after next → OrderIn told.run.stage told.run.words
+pub session_order : (told : Told) (out : Writer) (after : Session) (words : List ℕ) (out_after : Writer)
+    → Tells told out after words out_after → OrderIn told.run.stage told.run.words
     → OrderIn after.stage words
-session_order told out len after words out_after next k o =
+session_order told out after words out_after k o =
     subst (λ (w : List ℕ). OrderIn after.stage w) (sym k.memory)
     (subst (λ (s : Session). OrderIn s.stage told.run.words) (sym k.session) o)
 
 -- a schedule record in range
-pub read_tells : (board : Board) (session : Session) (words : List ℕ) (o : InOrder board words) (entry : Result Entry Refusal) (out : List ℕ) (len : ℕ)
-    (me : ℕ) (q : Process) (words_after out_after : List ℕ) (next : ℕ) → me ≡ slot_of entry board.settings.n
-    → Answers (session.count + 1) board.settings entry (process_at board me) words out len q words_after out_after next
-    → Tells (by_entry board (run_of session words) entry) out len
-    (record { stage = Running (put_process board me q); count = session.count + 1; held = 0; cr = false }) words_after out_after next
-read_tells board session words o entry out len me q words_after out_after next e k =
-    subst (λ (t : Told). Tells t out len (record { stage = Running (put_process board me q); count = session.count + 1; held = 0; cr = false }) words_after out_after next)
+pub read_tells : (board : Board) (session : Session) (words : List ℕ) (o : InOrder board words) (entry : Result Entry Refusal) (out : Writer)
+    (me : ℕ) (q : Process) (words_after : List ℕ) (out_after : Writer) → me ≡ slot_of entry board.settings.n
+    → Answers (session.count + 1) board.settings entry (process_at board me) words out q words_after out_after
+    → Tells (by_entry board (run_of session words) entry) out
+    (record { stage = Running (put_process board me q); count = session.count + 1; held = 0; cr = false }) words_after out_after
+read_tells board session words o entry out me q words_after out_after e k =
+    subst (λ (t : Told). Tells t out (record { stage = Running (put_process board me q); count = session.count + 1; held = 0; cr = false }) words_after out_after)
     (ap (λ (i : ℕ). record {
       printed = row_of (row_by (session.count + 1) board.settings entry (moved i).0);
       run = record { stage = Running (put_process board i (moved i).0.after); words = (moved i).1; count = session.count + 1 };
@@ -133,8 +134,7 @@ read_tells board session words o entry out len me q words_after out_after next e
     (record {
       session = ap (λ (p : Process). record { stage = Running (put_process board me p); count = session.count + 1; held = 0; cr = false }) k.process;
       memory = k.memory;
-      bytes = k.bytes;
-      place = k.place;
+      printed = k.row;
     })
   where
     moved : ℕ → Step
@@ -144,33 +144,33 @@ read_tells board session words o entry out len me q words_after out_after next e
 abbrev said : Board → Run → List ℕ → Told
 said board run bytes = by_entry board run (schedule_of bytes board.settings.w)
 
-module _ (board : Board) (session : Session) (words out : List ℕ) (len : ℕ) where
+module _ (board : Board) (session : Session) (words : List ℕ) (out : Writer) where
   -- a schedule record, by its number
-  pub within_records : (bytes : List ℕ) (read : Result Entry Refusal) (after : Session) (words_after out_after : List ℕ) (next : ℕ)
+  pub within_records : (bytes : List ℕ) (read : Result Entry Refusal) (after : Session) (words_after : List ℕ) (out_after : Writer)
       → session.count < most_records → read ≡ schedule_of bytes board.settings.w
-      → Tells (by_entry board (run_of session words) read) out len after words_after out_after next
-      → Tells (schedule_told board (run_of session words) bytes) out len after words_after out_after next
+      → Tells (by_entry board (run_of session words) read) out after words_after out_after
+      → Tells (schedule_told board (run_of session words) bytes) out after words_after out_after
   unfolding schedule_told
-  within_records bytes read after words_after out_after next few e k =
-      subst (λ (t : Told). Tells t out len after words_after out_after next)
+  within_records bytes read after words_after out_after few e k =
+      subst (λ (t : Told). Tells t out after words_after out_after)
       (ap (by_entry board (run_of session words)) e
       ∙ ap (λ (t : Bool). cond t (said board (run_of session words) bytes) (too_many_told (run_of session words)))
       (sym (lt-ltb session.count most_records few))) k
 
-  pub past_records : (bytes : List ℕ) (after : Session) (out_after : List ℕ) (next : ℕ)
-      → most_records ≤ session.count → EndsWithRow (nobodys_row (most_records + 1) TooManyRecords) session out len after out_after next
-      → Tells (schedule_told board (run_of session words) bytes) out len after words out_after next
+  pub past_records : (bytes : List ℕ) (after : Session) (out_after : Writer)
+      → most_records ≤ session.count → EndsWithRow (nobodys_row (most_records + 1) TooManyRecords) session out after out_after
+      → Tells (schedule_told board (run_of session words) bytes) out after words out_after
   unfolding schedule_told
-  past_records bytes after out_after next many k =
-      subst (λ (t : Bool). Tells (cond t (said board (run_of session words) bytes) (too_many_told (run_of session words))) out len after words out_after next)
+  past_records bytes after out_after many k =
+      subst (λ (t : Bool). Tells (cond t (said board (run_of session words) bytes) (too_many_told (run_of session words))) out after words out_after)
       (sym (le-ltb session.count most_records many))
-      (ends_tell _ (nobodys_row (most_records + 1) TooManyRecords) session after words words out out_after len next refl k)
+      (ends_tell _ (nobodys_row (most_records + 1) TooManyRecords) session after words words out out_after refl k)
 
-module _ (session : Session) (words out : List ℕ) (len : ℕ) where
+module _ (session : Session) (words : List ℕ) (out : Writer) where
   -- any record, by the stage
-  pub in_stage : (s : Stage) (bytes : List ℕ) (after : Session) (words_after out_after : List ℕ) (next : ℕ) → session.stage ≡ s
-      → Tells (told_in s (run_of session words) bytes) out len after words_after out_after next
-      → Tells (record_told (run_of session words) bytes) out len after words_after out_after next
+  pub in_stage : (s : Stage) (bytes : List ℕ) (after : Session) (words_after : List ℕ) (out_after : Writer) → session.stage ≡ s
+      → Tells (told_in s (run_of session words) bytes) out after words_after out_after
+      → Tells (record_told (run_of session words) bytes) out after words_after out_after
   unfolding record_told
-  in_stage s bytes after words_after out_after next e k =
-      subst (λ (x : Stage). Tells (told_in x (run_of session words) bytes) out len after words_after out_after next) (sym e) k
+  in_stage s bytes after words_after out_after e k =
+      subst (λ (x : Stage). Tells (told_in x (run_of session words) bytes) out after words_after out_after) (sym e) k

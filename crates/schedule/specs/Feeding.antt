@@ -1,6 +1,7 @@
 -- Bytes fed to a run: what stands in the lent line, words and output after them.
 use Rattle.std.specs.Prelude.{ℕ, ◌+◌, ◌-◌, Bool, true, false, cond, List, [], ◌∷◌, eqb, ltb, length}
 use Rattle.std.proofs.lemmas.List.Edits.{sets}
+use Rattle.writing.specs.declared.writer.Writer.{Writer}
 use Rattle.printout.specs.Writing.{longest_row}
 use Rattle.schedule.specs.Gathering.{Held, bytes_of, nothing_held, put, closes}
 use Rattle.answers.specs.Run.{Run, Told, record_told}
@@ -31,6 +32,10 @@ feeding session line words out len =
       out = out;
       len = len;
     }
+
+-- the same with a writer's bytes for the output
+abbrev pub feeding_to : Session → List ℕ → List ℕ → Writer → Feeding
+feeding_to session line words out = feeding session line words out.bytes.now out.len
 
 abbrev pub holding : Feeding → Held → Feeding
 holding f h = record { run = f.run; held = h; out = f.out; len = f.len }

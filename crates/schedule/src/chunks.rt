@@ -1,11 +1,8 @@
 // Bytes of the input fed to a run, as far as there is room for rows.
-ghost use Rattle.std.specs.Prelude.{◌≡◌, ◌+◌, ◌-◌, ◌≤◌, nat_lt, length};
+ghost use Rattle.std.specs.Prelude.{◌≡◌, ◌-◌, ◌≤◌, nat_lt, length};
 ghost use Rattle.printout.specs.Writing.{longest_row};
 ghost use Rattle.schedule.specs.Feeds.{Feeds};
 ghost use Rattle.schedule.specs.Ready.{Ready};
-ghost use Rattle.schedule.specs.Telling.{EndsWithRow};
-ghost use Rattle.word.specs.declared.Refusal.TheVariants.{TooManyRecords};
-ghost use Rattle.answers.specs.Run.{most_records, nobodys_row};
 ghost use Rattle.answers.specs.declared.Stage.TheVariants.{Waiting, Running};
 
 use crate::ends::end_with_too_many;
@@ -16,12 +13,13 @@ use answers::{Stage, answer, slot};
 use printout::LONGEST_ROW;
 use record::read_schedule;
 use rules::Board;
+use writing::Writer;
 
 // There may be no room for another row.
-pub(crate) fn is_full(lent: usize, len: usize) -> bool
-    ensures { result ≡ nat_lt (lent - len) longest_row }
+pub(crate) fn is_full(out: &Writer) -> bool
+    ensures { result ≡ nat_lt (length out.now.bytes.now - out.now.len) longest_row }
 {
-    lent.saturating_sub(len) < LONGEST_ROW
+    out.room() < LONGEST_ROW
 }
 
 // A running session with its parts; the record that is gathered.
@@ -37,26 +35,12 @@ fn running(board: Board, count: u64, held: usize, cr: bool) -> Session
 }
 
 // The same after some bytes.
-fn fed_running(board: Board, count: u64, held: usize, cr: bool, next: usize, len: usize) -> Fed
-    ensures { result ≡ record { session = record { stage = Running board; count = count; held = held; cr = cr }; next = next; len = len } }
+fn fed_running(board: Board, count: u64, held: usize, cr: bool, next: usize) -> Fed
+    ensures { result ≡ record { session = record { stage = Running board; count = count; held = held; cr = cr }; next = next } }
 {
     Fed {
         session: running(board, count, held, cr),
         next,
-        len,
-    }
-}
-
-// 12, with which the run is over, after the bytes before `next`.
-fn fed_too_many(session: Session, next: usize, out: &mut [u8], len: usize) -> Fed
-    requires { longest_row ≤ length out.old - len }
-    ensures { EndsWithRow (nobodys_row (most_records + 1) TooManyRecords) session out.old len result.session out.new result.len × (result.next ≡ next) }
-{
-    let last = end_with_too_many(session, out, len);
-    Fed {
-        session: last.after,
-        next,
-        len: last.len,
     }
 }
 
@@ -67,33 +51,28 @@ pub(crate) fn feed_set_up(
     at: usize,
     line: &mut [u8],
     mem: &mut [u64],
-    out: &mut [u8],
-    len: usize,
+    out: &mut Writer,
 ) -> Fed
     requires { (session.stage ≡ Waiting) × Ready session line.old mem.old × (at ≤ length chunk.now)
-        × (longest_row ≤ length out.old - len) }
-    ensures { Feeds session chunk.now at line.old mem.old out.old len
+        × (longest_row ≤ length out.old.bytes.now - out.old.len) }
+    ensures { Feeds session chunk.now at line.old mem.old out.old
         result line.new mem.new out.new }
 {
     let found = gather(session.held, session.cr, chunk, at, line);
     let held = found.held;
-    if found.closed {
-        let next = take_set_up(session, &line[..held], mem, out, len);
-        return Fed {
-            session: next.after,
-            next: found.next,
-            len: next.len,
-        };
-    }
-    Fed {
-        session: Session {
+    let session = if found.closed {
+        take_set_up(session, &line[..held], mem, out)
+    } else {
+        Session {
             stage: Stage::Waiting,
             count: session.count,
             held,
             cr: found.cr,
-        },
+        }
+    };
+    Fed {
+        session,
         next: found.next,
-        len,
     }
 }
 
@@ -107,11 +86,10 @@ pub(crate) fn feed_running(
     at: usize,
     line: &mut [u8],
     mem: &mut [u64],
-    out: &mut [u8],
-    len: usize,
+    out: &mut Writer,
 ) -> Fed
     requires { (session.stage ≡ Running board) × Ready session line.old mem.old × (at ≤ length chunk.now) }
-    ensures { Feeds session chunk.now at line.old mem.old out.old len
+    ensures { Feeds session chunk.now at line.old mem.old out.old
         result line.new mem.new out.new }
 {
     let s = board.settings;
@@ -119,10 +97,9 @@ pub(crate) fn feed_running(
     let mut held = session.held;
     let mut cr = session.cr;
     let mut next = at;
-    let mut size = len;
     while next < chunk.len() {
-        if is_full(out.len(), size) {
-            return fed_running(board, count, held, cr, next, size);
+        if is_full(out) {
+            return fed_running(board, count, held, cr, next);
         }
         let found = gather(held, cr, chunk, next, line);
         held = found.held;
@@ -130,17 +107,16 @@ pub(crate) fn feed_running(
         next = found.next;
         if found.closed {
             if count >= MOST_RECORDS {
-                return fed_too_many(running(board, count, held, cr), next, out, size);
+                let session = end_with_too_many(running(board, count, held, cr), out);
+                return Fed { session, next };
             }
             let read = read_schedule(&line[..held], s.w);
             let me = slot(read, s.n);
-            let taken = answer(count + 1, s, read, board.processes[me], mem, out, size);
-            board.processes[me] = taken.after;
-            size = taken.len;
+            board.processes[me] = answer(count + 1, s, read, board.processes[me], mem, out);
             count += 1;
             held = 0;
             cr = false;
         }
     }
-    fed_running(board, count, held, cr, next, size)
+    fed_running(board, count, held, cr, next)
 }

@@ -6,35 +6,32 @@ ghost use Rattle.answers.specs.Run.{most_records, nobodys_row};
 ghost use Rattle.schedule.specs.Telling.{EndsWithRow};
 
 use crate::{MOST_RECORDS, Session};
-use answers::{Printed, Stage, nobodys_row};
+use answers::{Stage, nobodys_row};
 use printout::{Row, put_row};
 use word::Refusal;
+use writing::Writer;
 
-pub(crate) fn end_with(row: Row, session: Session, out: &mut [u8], len: usize) -> Printed<Session>
-    requires { longest_row ≤ length out.old - len }
-    ensures { EndsWithRow row session out.old len result.after out.new result.len }
+pub(crate) fn end_with(row: Row, session: Session, out: &mut Writer) -> Session
+    requires { longest_row ≤ length out.old.bytes.now - out.old.len }
+    ensures { EndsWithRow row session out.old result out.new }
 {
-    let next = put_row(row, out, len);
-    Printed {
-        after: Session {
-            stage: Stage::Over,
-            count: session.count,
-            held: 0,
-            cr: false,
-        },
-        len: next,
+    put_row(row, out);
+    Session {
+        stage: Stage::Over,
+        count: session.count,
+        held: 0,
+        cr: false,
     }
 }
 
 // 12: the record after the 1,000,000th has its row, and ends the run.
-pub(crate) fn end_with_too_many(session: Session, out: &mut [u8], len: usize) -> Printed<Session>
-    requires { longest_row ≤ length out.old - len }
-    ensures { EndsWithRow (nobodys_row (most_records + 1) TooManyRecords) session out.old len result.after out.new result.len }
+pub(crate) fn end_with_too_many(session: Session, out: &mut Writer) -> Session
+    requires { longest_row ≤ length out.old.bytes.now - out.old.len }
+    ensures { EndsWithRow (nobodys_row (most_records + 1) TooManyRecords) session out.old result out.new }
 {
     end_with(
         nobodys_row(MOST_RECORDS + 1, Refusal::TooManyRecords),
         session,
         out,
-        len,
     )
 }

@@ -3,8 +3,9 @@
 #![tactic(auto)]
 
 ghost use Rattle.std.specs.Prelude.{◌≡◌, ◌-◌, ◌≤◌, length};
+ghost use Rattle.writing.specs.Put.{SameLent};
 ghost use Rattle.printout.specs.Writing.{Written, put_heading, longest_row};
-ghost use Rattle.schedule.specs.Feeding.{feeding, session_of, is_over, finish_of};
+ghost use Rattle.schedule.specs.Feeding.{feeding_to, session_of, is_over, finish_of};
 ghost use Rattle.schedule.specs.Feeds.{Feeds};
 ghost use Rattle.schedule.specs.Ready.{Ready};
 ghost use Rattle.answers.specs.Run.{beginning_run};
@@ -15,8 +16,9 @@ mod gather; // gather.rt: a record gathered in the lent line
 mod setup; // setup.rt: the set-up record
 mod take; // take.rt: one whole record
 
-use answers::{Printed, Stage};
+use answers::Stage;
 use printout::put_heading;
+use writing::Writer;
 
 // Schedule records after this many are refused.
 pub const MOST_RECORDS: u64 = 1000000;
@@ -34,28 +36,25 @@ pub struct Session {
     cr: bool,
 }
 
-// A run after some bytes: the place of the next byte, and how many bytes the output holds.
+// A run after some bytes, and the place of the next byte.
 #[derive(Clone, Copy)]
 pub struct Fed {
     pub session: Session,
     pub next: usize,
-    pub len: usize,
 }
 
 // A run that waits for its set-up; the heading is written.
-pub fn start(out: &mut [u8]) -> Printed<Session>
-    ensures { (result.after ≡ session_of beginning_run)
-        × (◌≡◌ {A = Written} (out.new, result.len) (put_heading out.old 0)) }
+pub fn start(out: &mut Writer) -> Session
+    ensures session { result ≡ session_of beginning_run }
+    ensures written { ◌≡◌ {A = Written} (out.new.bytes.now, out.new.len) (put_heading out.old.bytes.now out.old.len) }
+    ensures same { SameLent out.old out.new }
 {
-    let len = put_heading(out, 0);
-    Printed {
-        after: Session {
-            stage: Stage::Waiting,
-            count: 0,
-            held: 0,
-            cr: false,
-        },
-        len,
+    put_heading(out);
+    Session {
+        stage: Stage::Waiting,
+        count: 0,
+        held: 0,
+        cr: false,
     }
 }
 
@@ -73,51 +72,36 @@ pub fn feed(
     at: usize,
     line: &mut [u8],
     mem: &mut [u64],
-    out: &mut [u8],
-    len: usize,
+    out: &mut Writer,
 ) -> Fed
     requires { Ready session line.old mem.old × (at ≤ length chunk.now) }
-    ensures { Feeds session chunk.now at line.old mem.old out.old len
+    ensures { Feeds session chunk.now at line.old mem.old out.old
         result line.new mem.new out.new }
 {
-    if chunks::is_full(out.len(), len) {
-        return Fed {
-            session,
-            next: at,
-            len,
-        };
+    if chunks::is_full(out) {
+        return Fed { session, next: at };
     }
     match session.stage {
-        Stage::Waiting => chunks::feed_set_up(session, chunk, at, line, mem, out, len),
+        Stage::Waiting => chunks::feed_set_up(session, chunk, at, line, mem, out),
         Stage::Running(board) => {
-            chunks::feed_running(board, session, chunk, at, line, mem, out, len)
+            chunks::feed_running(board, session, chunk, at, line, mem, out)
         },
         Stage::Over => Fed {
             session,
             next: chunk.len(),
-            len,
         },
     }
 }
 
 // The input has ended: a last record without its pair is answered.
-pub fn finish(
-    session: Session,
-    line: &[u8],
-    mem: &mut [u64],
-    out: &mut [u8],
-    len: usize,
-) -> Printed<Session>
-    requires { Ready session line.now mem.old × (longest_row ≤ length out.old - len) }
-    ensures { feeding result.after line.now mem.new out.new result.len
-        ≡ finish_of (feeding session line.now mem.old out.old len) }
+pub fn finish(session: Session, line: &[u8], mem: &mut [u64], out: &mut Writer) -> Session
+    requires { Ready session line.now mem.old × (longest_row ≤ length out.old.bytes.now - out.old.len) }
+    ensures fed { feeding_to result line.now mem.new out.new ≡ finish_of (feeding_to session line.now mem.old out.old) }
+    ensures same { SameLent out.old out.new }
 {
     let held = session.held;
     if held == 0 {
-        return Printed {
-            after: session,
-            len,
-        };
+        return session;
     }
-    take::take_record(session, &line[..held], mem, out, len)
+    take::take_record(session, &line[..held], mem, out)
 }

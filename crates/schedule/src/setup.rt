@@ -7,32 +7,24 @@ ghost use Rattle.answers.specs.Run.{by_settings, set_up_told};
 
 use crate::Session;
 use crate::ends::end_with;
-use answers::{Printed, Stage, set_up_row};
+use answers::{Stage, set_up_row};
 use board::set_up;
 use record::read_settings;
 use rules::Settings;
+use writing::Writer;
 
-fn set_up_board(
-    session: Session,
-    s: Settings,
-    mem: &mut [u64],
-    out: &mut [u8],
-    len: usize,
-) -> Printed<Session>
-    requires { longest_row ≤ length out.old - len }
-    ensures { Tells (by_settings (run_of session mem.old) (Ok s)) out.old len result.after mem.new out.new result.len }
+fn set_up_board(session: Session, s: Settings, mem: &mut [u64], out: &mut Writer) -> Session
+    requires { longest_row ≤ length out.old.bytes.now - out.old.len }
+    ensures { Tells (by_settings (run_of session mem.old) (Ok s)) out.old result mem.new out.new }
 {
     match set_up(s, mem) {
-        Ok(board) => Printed {
-            after: Session {
-                stage: Stage::Running(board),
-                count: 0,
-                held: 0,
-                cr: false,
-            },
-            len,
+        Ok(board) => Session {
+            stage: Stage::Running(board),
+            count: 0,
+            held: 0,
+            cr: false,
         },
-        Err(why) => end_with(set_up_row(why), session, out, len),
+        Err(why) => end_with(set_up_row(why), session, out),
     }
 }
 
@@ -41,14 +33,13 @@ pub(crate) fn take_set_up(
     session: Session,
     bytes: &[u8],
     mem: &mut [u64],
-    out: &mut [u8],
-    len: usize,
-) -> Printed<Session>
-    requires { longest_row ≤ length out.old - len }
-    ensures { Tells (set_up_told (run_of session mem.old) bytes.now) out.old len result.after mem.new out.new result.len }
+    out: &mut Writer,
+) -> Session
+    requires { longest_row ≤ length out.old.bytes.now - out.old.len }
+    ensures { Tells (set_up_told (run_of session mem.old) bytes.now) out.old result mem.new out.new }
 {
     match read_settings(bytes) {
-        Ok(s) => set_up_board(session, s, mem, out, len),
-        Err(why) => end_with(set_up_row(why), session, out, len),
+        Ok(s) => set_up_board(session, s, mem, out),
+        Err(why) => end_with(set_up_row(why), session, out),
     }
 }

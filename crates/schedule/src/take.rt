@@ -9,10 +9,11 @@ ghost use Rattle.answers.specs.Run.{most_records, by_entry, schedule_told, recor
 use crate::ends::end_with_too_many;
 use crate::setup::take_set_up;
 use crate::{MOST_RECORDS, Session};
-use answers::{Printed, Stage, answer, slot};
+use answers::{Stage, answer, slot};
 use record::{Entry, read_schedule};
 use rules::Board;
 use word::Refusal;
+use writing::Writer;
 
 #[tactic(auto, using(answers::proofs::OneProcess::all_sized))]
 fn take_read(
@@ -20,25 +21,20 @@ fn take_read(
     session: Session,
     read: Result<Entry, Refusal>,
     mem: &mut [u64],
-    out: &mut [u8],
-    len: usize,
-) -> Printed<Session>
-    requires { InOrder board mem.old × (session.count < most_records) × (longest_row ≤ length out.old - len) }
-    ensures { Tells (by_entry board (run_of session mem.old) read) out.old len result.after mem.new out.new result.len }
+    out: &mut Writer,
+) -> Session
+    requires { InOrder board mem.old × (session.count < most_records) × (longest_row ≤ length out.old.bytes.now - out.old.len) }
+    ensures { Tells (by_entry board (run_of session mem.old) read) out.old result mem.new out.new }
 {
     let s = board.settings;
     let me = slot(read, s.n);
     let count = session.count + 1;
-    let taken = answer(count, s, read, board.processes[me], mem, out, len);
-    board.processes[me] = taken.after;
-    Printed {
-        after: Session {
-            stage: Stage::Running(board),
-            count,
-            held: 0,
-            cr: false,
-        },
-        len: taken.len,
+    board.processes[me] = answer(count, s, read, board.processes[me], mem, out);
+    Session {
+        stage: Stage::Running(board),
+        count,
+        held: 0,
+        cr: false,
     }
 }
 
@@ -48,17 +44,16 @@ fn take_schedule(
     session: Session,
     bytes: &[u8],
     mem: &mut [u64],
-    out: &mut [u8],
-    len: usize,
-) -> Printed<Session>
-    requires { InOrder board mem.old × (longest_row ≤ length out.old - len) }
-    ensures { Tells (schedule_told board (run_of session mem.old) bytes.now) out.old len result.after mem.new out.new result.len }
+    out: &mut Writer,
+) -> Session
+    requires { InOrder board mem.old × (longest_row ≤ length out.old.bytes.now - out.old.len) }
+    ensures { Tells (schedule_told board (run_of session mem.old) bytes.now) out.old result mem.new out.new }
 {
     if session.count < MOST_RECORDS {
         let read = read_schedule(bytes, board.settings.w);
-        return take_read(board, session, read, mem, out, len);
+        return take_read(board, session, read, mem, out);
     }
-    end_with_too_many(session, out, len)
+    end_with_too_many(session, out)
 }
 
 #[tactic(auto, unfolding(answers::specs::Run::record_told))]
@@ -66,23 +61,19 @@ pub(crate) fn take_record(
     session: Session,
     bytes: &[u8],
     mem: &mut [u64],
-    out: &mut [u8],
-    len: usize,
-) -> Printed<Session>
-    requires { OrderIn session.stage mem.old × (longest_row ≤ length out.old - len) }
-    ensures { Tells (record_told (run_of session mem.old) bytes.now) out.old len result.after mem.new out.new result.len }
+    out: &mut Writer,
+) -> Session
+    requires { OrderIn session.stage mem.old × (longest_row ≤ length out.old.bytes.now - out.old.len) }
+    ensures { Tells (record_told (run_of session mem.old) bytes.now) out.old result mem.new out.new }
 {
     match session.stage {
-        Stage::Waiting => take_set_up(session, bytes, mem, out, len),
-        Stage::Running(board) => take_schedule(board, session, bytes, mem, out, len),
-        Stage::Over => Printed {
-            after: Session {
-                stage: Stage::Over,
-                count: session.count,
-                held: 0,
-                cr: false,
-            },
-            len,
+        Stage::Waiting => take_set_up(session, bytes, mem, out),
+        Stage::Running(board) => take_schedule(board, session, bytes, mem, out),
+        Stage::Over => Session {
+            stage: Stage::Over,
+            count: session.count,
+            held: 0,
+            cr: false,
         },
     }
 }

@@ -9,8 +9,9 @@ use lib.Dec.{ltb}
 use lib.ListN.{length, take, drop, length-append}
 use lib.Seq.{length-take-le}
 use Rattle.printout.specs.Writing.{longest_row}
+use Rattle.writing.specs.declared.writer.Writer.{Writer}
 use Rattle.schedule.specs.declared.Fed.{Fed}
-use Rattle.schedule.specs.Feeding.{Feeding, feeding, feed_of}
+use Rattle.schedule.specs.Feeding.{Feeding, feeding, feeding_to, feed_of}
 use Rattle.schedule.specs.Feeds.{Feeds}
 use Rattle.schedule.specs.Longest.{longest_printout, may_hold}
 use Rattle.schedule.specs.WholeInput.{Takes, output}
@@ -81,17 +82,20 @@ module _ (p : Point) (stands : Stands p) (room : Output) (made : MakesRoom (leng
       go true e k = omega (arith, stands.room, k.empty)
       go false e k = omega (arith, ltb-false (length p.out - p.held.len) longest_row e, ap (λ (o : Output). o.len) k)
 
-  -- bytes of a chunk fed from there
-  module _ (chunk : List ℕ) (at len : ℕ) (same : len ≡ room.len) (fed : Fed) (line words out : List ℕ)
-      (feeds : Feeds p.session chunk at p.line p.words p.out len fed line words out) where
+  -- bytes of a chunk fed from there, into an output that holds what waits
+  module _ (chunk : List ℕ) (at : ℕ) (out : Writer) (lent : out.bytes.now ≡ p.out) (same : out.len ≡ room.len) (fed : Fed) (line words : List ℕ)
+      (out_after : Writer) (feeds : Feeds p.session chunk at p.line p.words out fed line words out_after) where
     after : Feeding
-    after = feeding fed.session line words out fed.len
+    after = feeding_to fed.session line words out_after
 
     fed_here : ◌≡◌ {A = Feeding × List ℕ} (after, drop fed.next chunk) (feed_of (feeding_at (with_output p room)) (drop at chunk))
     unfolding after
-    fed_here = feeds.fed ∙ ap (λ (n : ℕ). feed_of (feeding p.session p.line p.words p.out n) (drop at chunk)) same
+    fed_here =
+        feeds.fed
+        ∙ ap (λ (l : List ℕ). feed_of (feeding p.session p.line p.words l out.len) (drop at chunk)) lent
+        ∙ ap (λ (n : ℕ). feed_of (feeding p.session p.line p.words p.out n) (drop at chunk)) same
 
-    pub rows_put : room.len ≤ fed.len
+    pub rows_put : room.len ≤ out_after.len
     unfolding after
     rows_put = (fed_grown (feeding_at (with_output p room)) after (drop at chunk) (drop fed.next chunk) fed_here room_stands.within).1
 
@@ -100,10 +104,10 @@ module _ (p : Point) (stands : Stands p) (room : Output) (made : MakesRoom (leng
 
     -- the output with the rows that were put
     rows : Output
-    rows = record { len = fed.len; written = room.written; failed = room.failed }
+    rows = record { len = out_after.len; written = room.written; failed = room.failed }
 
     rows_taken : (start : Point) → at ≤ length chunk → Taken start (take at chunk) p
-        → Taken start (take fed.next chunk) (point fed.session line words out rows)
+        → Taken start (take fed.next chunk) (point fed.session line words out_after.bytes.now rows)
     unfolding after rows
     rows_taken start within so_far =
         let roomy = subst (λ (l : List ℕ). Taken start l (with_output p room)) (append-nil (take at chunk))
@@ -115,21 +119,23 @@ module _ (p : Point) (stands : Stands p) (room : Output) (made : MakesRoom (leng
           counts = record { unfailed = roomy.counts.unfailed; counted = roomy.counts.counted };
         }
 
-    rows_stand : length out ≡ length p.out → Stands (point fed.session line words out rows)
+    rows_stand : Stands (point fed.session line words out_after.bytes.now rows)
     unfolding after rows
-    rows_stand long =
+    rows_stand =
         let roomy = feeding_at (with_output p room) in
         record {
           ready = feeds.ready;
           within = (fed_grown roomy after (drop at chunk) (drop fed.next chunk) fed_here room_stands.within).0;
-          room = omega (arith, stands.room, long);
+          room = omega (arith, stands.room, feeds.same.long, ap (λ (l : List ℕ). length l) lent);
           bounded = omega (arith, room_stands.bounded, fed_no_more roomy after (drop at chunk) (drop fed.next chunk) fed_here);
         }
 
-    pub goes_on_lem : (start : Point) → at ≤ length chunk → length out ≡ length p.out → (grown : Output)
-        → grown ≡ record { len = fed.len; written = room.written; failed = room.failed } → Taken start (take at chunk) p
-        → TakesChunk start (take fed.next chunk) (point fed.session line words out grown)
+    -- and the lent bytes are had back
+    pub goes_on_lem : (start : Point) → at ≤ length chunk → (back : List ℕ) → back ≡ out_after.bytes.now → (grown : Output)
+        → grown ≡ record { len = out_after.len; written = room.written; failed = room.failed } → Taken start (take at chunk) p
+        → TakesChunk start (take fed.next chunk) (point fed.session line words back grown)
     unfolding rows
-    goes_on_lem start within long grown e so_far =
-        subst (λ (o : Output). TakesChunk start (take fed.next chunk) (point fed.session line words out o)) (sym e)
-        (record { taken = rows_taken start within so_far; stands = rows_stand long })
+    goes_on_lem start within back given grown e so_far =
+        subst (λ (l : List ℕ). TakesChunk start (take fed.next chunk) (point fed.session line words l grown)) (sym given)
+        (subst (λ (o : Output). TakesChunk start (take fed.next chunk) (point fed.session line words out_after.bytes.now o)) (sym e)
+        (record { taken = rows_taken start within so_far; stands = rows_stand }))

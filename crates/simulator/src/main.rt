@@ -20,6 +20,7 @@ use input::Input;
 use output::Output;
 use printout::LONGEST_ROW;
 use schedule::Session;
+use writing::Writer;
 
 // After so many bytes another read could give more than can be counted. No input is that long.
 const MOST_READ: usize = usize::MAX - 65535;
@@ -75,11 +76,14 @@ fn take_chunk(
     // A turn takes as many bytes as there is room for rows, so that no `for` counts them.
     while at < chunk.len() {
         let room = make_room(rt, out, held);
-        let len = room.waiting();
-        let fed = schedule::feed(session, chunk, at, line, mem, out, len);
+        let mut lent = Writer {
+            bytes: out,
+            len: room.waiting(),
+        };
+        let fed = schedule::feed(session, chunk, at, line, mem, &mut lent);
         session = fed.session;
         at = fed.next;
-        held = room.grown(fed.len);
+        held = room.grown(lent.len);
     }
     State { session, held }
 }
@@ -158,9 +162,12 @@ fn end(
     ensures { Finishes (point session line.now mem.old out.old held) out.new result }
 {
     let room = make_room(rt, out, held);
-    let len = room.waiting();
-    let last = schedule::finish(session, line, mem, out, len);
-    room.grown(last.len)
+    let mut lent = Writer {
+        bytes: out,
+        len: room.waiting(),
+    };
+    schedule::finish(session, line, mem, &mut lent);
+    room.grown(lent.len)
 }
 
 // A whole run, but for what waits at its end.
@@ -174,9 +181,10 @@ fn run(
     requires { Lent line.old mem.old buffer.old out.old }
     ensures { Runs line.old out.old out.new result.held result.input }
 {
-    let begun = schedule::start(out);
-    let heading = Output::begun(begun.len);
-    let read = read_all(rt, begun.after, heading, line, mem, buffer, out);
+    let mut lent = Writer { bytes: out, len: 0 };
+    let session = schedule::start(&mut lent);
+    let heading = Output::begun(lent.len);
+    let read = read_all(rt, session, heading, line, mem, buffer, out);
     let state = read.state;
     let held = end(rt, state.session, state.held, line, mem, out);
     Ended {

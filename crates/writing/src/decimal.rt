@@ -2,9 +2,9 @@
 ghost use Rattle.std.specs.Prelude.{◌≡◌, ◌+◌, ◌≤◌, ◌<◌, length};
 ghost use Rattle.fields.specs.Decimal.{decimal};
 ghost use Rattle.writing.specs.Line.{after_comma};
-ghost use Rattle.writing.specs.Put.{Put};
+ghost use Rattle.writing.specs.Put.{Puts};
 
-use super::bytes::put;
+use super::writer::Writer;
 
 // The number of digits: one, and one more for each power of ten from 10 on that the number reaches.
 #[tactic(auto, using(crate::proofs::Counting::counted))]
@@ -14,26 +14,28 @@ fn digit_count(x: u64) -> usize
     x.checked_ilog10().unwrap_or(0) as usize + 1
 }
 
-// The digits are put from the last to the first.
-#[tactic(auto, using(crate::proofs::Digits::digits_left, crate::proofs::Digits::digit_put))]
-pub fn put_decimal(x: u64, out: &mut [u8], at: usize) -> usize
-    requires { at + length (decimal x) ≤ length out.old }
-    ensures { Put out.old at (decimal x) out.new result }
-{
-    let end = at + digit_count(x);
-    let mut left = x;
-    for i in (at..end).rev() {
-        out[i] = b'0' + (left % 10) as u8;
-        left /= 10;
+impl Writer<'_> {
+    // The digits are put from the last to the first.
+    #[tactic(auto, using(crate::proofs::Digits::digits_left, crate::proofs::Digits::digit_put))]
+    pub fn put_decimal(&mut self, x: u64)
+        requires { self.old.len + length (decimal x) ≤ length self.old.bytes.now }
+        ensures { Puts self.old (decimal x) self.new }
+    {
+        let end = self.len + digit_count(x);
+        let mut left = x;
+        for i in (self.len..end).rev() {
+            self.bytes[i] = b'0' + (left % 10) as u8;
+            left /= 10;
+        }
+        self.len = end;
     }
-    end
-}
 
-// A number with the comma before it.
-pub fn put_number(x: u64, out: &mut [u8], at: usize) -> usize
-    requires { at + length (after_comma (decimal x)) ≤ length out.old }
-    ensures { Put out.old at (after_comma (decimal x)) out.new result }
-{
-    let next = put(b",", out, at);
-    put_decimal(x, out, next)
+    // A number with the comma before it.
+    pub fn put_number(&mut self, x: u64)
+        requires { self.old.len + length (after_comma (decimal x)) ≤ length self.old.bytes.now }
+        ensures { Puts self.old (after_comma (decimal x)) self.new }
+    {
+        self.put(b",");
+        self.put_decimal(x);
+    }
 }

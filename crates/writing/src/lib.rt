@@ -1,9 +1,7 @@
-// Bytes and decimal numbers written into lent bytes, one after the other: each writer takes the place where it begins
-// and gives the place after what it wrote.
+// Bytes and decimal numbers written into lent bytes, one after the other.
 #![tactic(auto)]
 
-mod bytes;
 mod decimal;
+mod writer;
 
-pub use bytes::put;
-pub use decimal::{put_decimal, put_number};
+pub use writer::Writer;

@@ -3,4 +3,4 @@ use Rattle.writing.proofs.Puts.{then}
 use Rattle.printout.proofs.row_fields.put_who.Goals as goal
 
 pub returns-in-Process : goal.returns-in-Process
-returns-in-Process c = rw c.in-Process.is (then c.put_number-next.ensures c.put_act.ensures)
+returns-in-Process c = rw c.in-Process.is (then c.put_number.ensures c.put_act.ensures)

@@ -4,7 +4,7 @@ use Rattle.printout.proofs.value_fields.put_values.Goals as goal
 
 pub returns : goal.returns
 returns c =
-    then c.put_value-at_v1.ensures
-    (then c.put_value-at_v2.ensures
-    (then c.put_value-at_v3.ensures
-    (then c.put_value-at_end.ensures c.put.ensures)))
+    then c.put_value.ensures
+    (then c.put_value-2.ensures
+    (then c.put_value-3.ensures
+    (then c.put_value-4.ensures c.put.ensures)))

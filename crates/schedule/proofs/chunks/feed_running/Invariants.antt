@@ -3,7 +3,8 @@
 use mathlib.Core.Path.{◌≡◌}
 use Prim.Native.Nat.{◌-◌, ◌≤◌}
 use lib.ListN.{length, drop}
-use Rattle.schedule.specs.Feeding.{feeding, feed_of}
+use Rattle.writing.specs.Put.{SameLent}
+use Rattle.schedule.specs.Feeding.{feeding_to, feed_of}
 use Rattle.schedule.specs.Gathering.{line_length}
 use Rattle.answers.specs.Order.{InOrder}
 use Rattle.schedule.proofs.RunningOn.{running}
@@ -18,10 +19,10 @@ invariant-loop-next l =
     × (length l.line ≡ line_length)
     × (length l.line ≡ length l.initial.line)
     × (length l.mem ≡ length l.initial.mem)
-    × (length l.out ≡ length l.initial.out)
-    × (feed_of (feeding (running l.board l.count l.held l.cr) l.line l.mem l.out l.size) (drop l.next l.chunk)
+    × SameLent l.initial.out l.out
+    × (feed_of (feeding_to (running l.board l.count l.held l.cr) l.line l.mem l.out) (drop l.next l.chunk)
     ≡ feed_of
-    (feeding (running l.initial.board l.initial.count l.initial.held l.initial.cr) l.initial.line l.initial.mem l.initial.out l.len)
+    (feeding_to (running l.initial.board l.initial.count l.initial.held l.initial.cr) l.initial.line l.initial.mem l.initial.out)
     (drop l.at l.chunk))
 
 abbrev pub decreases-loop-next : goal.decreases-loop-next

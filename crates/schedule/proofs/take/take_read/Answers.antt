@@ -3,13 +3,13 @@ use Rattle.schedule.proofs.RunningOn.{served}
 use Rattle.schedule.proofs.Tellings.{read_tells}
 use Rattle.schedule.proofs.take.take_read.Goals as goal
 
-pub answer-taken-requires : goal.answer-taken-requires
-answer-taken-requires c =
+pub answer-requires : goal.answer-requires
+answer-requires c =
     let k = served c.args.board c.args.mem.now c.requires.0 c.slot-me.result c.slot-me.ensures.1 in
     (k.sizes, k.room, k.process, k.clean, c.requires.2)
 
 pub returns : goal.returns
 returns c =
     let a = c.args in
-    read_tells a.board a.session a.mem.now c.requires.0 a.read a.out.now a.len _ _ _ _ _
-    c.slot-me.ensures.0 c.answer-taken.ensures
+    read_tells a.board a.session a.mem.now c.requires.0 a.read a.out.now _ _ _ _
+    c.slot-me.ensures.0 c.answer.ensures
