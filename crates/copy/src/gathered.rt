@@ -1,5 +1,5 @@
 // What Figure 6's Copy does with a segment's value once the header was read again, and how Copy ends.
-ghost use Rattle.std.specs.Prelude.{◌≡◌, ◌<◌};
+ghost use Rattle.std.specs.Prelude.{◌≡◌, ◌<◌, Ok};
 ghost use Rattle.rules.specs.Bounds.{Sized};
 ghost use Rattle.rules.specs.Figure6.{saving, copy_through, copy_on, copy_cut_short};
 ghost use Rattle.rules.specs.Processes.{closing, ends};
@@ -23,9 +23,9 @@ pub(crate) fn saving(c: Copy, value: u64, p: Process) -> Process
 // 20, 21: a store whose header was swapped answers yes in any case, and its sequence closes.
 fn store_ends(c: Copy, p: Process) -> Answered<Process>
     requires { c.variable < 16 }
-    ensures { result ≡ ends Yes (closing c.variable p) }
+    ensures { result ≡ ends (Ok Yes) (closing c.variable p) }
 {
-    ends(Answer::Yes, closing(c.variable, p))
+    ends(Ok(Answer::Yes), closing(c.variable, p))
 }
 
 // 9, 12: Copy is through: a load answers the values gathered.
@@ -34,7 +34,7 @@ fn copy_through(c: Copy, p: Process) -> Answered<Process>
     ensures { result ≡ copy_through c p }
 {
     if c.gathers {
-        ends(Answer::Value(p.gathered), p)
+        ends(Ok(Answer::Value(p.gathered)), p)
     } else {
         store_ends(c, p)
     }
@@ -62,7 +62,7 @@ pub(crate) fn copy_cut_short(s: Settings, c: Copy, header: u64, p: Process) -> A
     ensures { result ≡ copy_cut_short s c header p }
 {
     if c.gathers {
-        ends(Answer::Witness(s.layout.value_of(header)), p)
+        ends(Ok(Answer::Witness(s.layout.value_of(header))), p)
     } else {
         store_ends(c, p)
     }

@@ -40,8 +40,8 @@ pub fn validate_reads_header(s: Settings, p: Process, x: usize, mem: &[u64]) -> 
     let header = mem[header_at(s, x)];
     let tag = s.layout.tag_of(header);
     if tag == kept_of(x, p) {
-        ends(Answer::Yes, p)
+        ends(Ok(Answer::Yes), p)
     } else {
-        ends(Answer::No, p)
+        ends(Ok(Answer::No), p)
     }
 }

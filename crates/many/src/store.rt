@@ -18,7 +18,7 @@ pub fn store_reads_header(s: Settings, p: Process, x: usize, mem: &[u64]) -> Ans
     let header = mem[header_at(s, x)];
     let tag = s.layout.tag_of(header);
     if tag != kept_of(x, p) {
-        return ends(Answer::No, closing(x, p));
+        return ends(Ok(Answer::No), closing(x, p));
     }
     goes_on(Place::StoreAnnounces(x, header, 0), p)
 }
@@ -79,6 +79,6 @@ pub fn store_swaps_header(
         };
         goes_on(Place::ReadsSegment(c), p)
     } else {
-        ends(Answer::No, closing(x, p))
+        ends(Ok(Answer::No), closing(x, p))
     }
 }

@@ -19,7 +19,7 @@ pub fn load_reads_word(s: Settings, p: Process, x: usize, mem: &[u64]) -> Answer
     let value = s.layout.value_of(word);
     let kept = keeping(x, word, p);
     let opened = opening(x, kept);
-    ends(Answer::Value([value, 0, 0, 0]), opened)
+    ends(Ok(Answer::Value([value, 0, 0, 0])), opened)
 }
 
 // Line 3: read the word; yes exactly if it equals the keep-word.
@@ -28,9 +28,9 @@ pub fn validate_reads_word(s: Settings, p: Process, x: usize, mem: &[u64]) -> An
     ensures { result ≡ (validate_reads_word s p x mem.now).0 }
 {
     if mem[x] == kept_of(x, p) {
-        ends(Answer::Yes, p)
+        ends(Ok(Answer::Yes), p)
     } else {
-        ends(Answer::No, p)
+        ends(Ok(Answer::No), p)
     }
 }
 
@@ -52,8 +52,8 @@ pub fn store_swaps_word(s: Settings, p: Process, x: usize, mem: &mut [u64]) -> A
 {
     if mem[x] == kept_of(x, p) {
         mem[x] = new_word(s, p, x);
-        ends(Answer::Yes, closing(x, p))
+        ends(Ok(Answer::Yes), closing(x, p))
     } else {
-        ends(Answer::No, closing(x, p))
+        ends(Ok(Answer::No), closing(x, p))
     }
 }

@@ -103,12 +103,12 @@ pub fn goes_on(place: Place, p: Process) -> Answered<Process>
 }
 
 // The last step of a call gives its answer, and makes its process idle.
-pub fn ends(answer: Answer, p: Process) -> Answered<Process>
+pub fn ends(answer: Result<Answer, Refusal>, p: Process) -> Answered<Process>
     ensures { result ≡ ends answer p }
 {
     Answered {
         after: at_place(Place::Idle, p),
-        answer: Ok(answer),
+        answer,
     }
 }
 

@@ -5,7 +5,7 @@ use Rattle.word.specs.Word.{word, tag_of, value_of, next_tag, previous_tag}
 use Rattle.rules.specs.Figure4.{Step}
 use Rattle.rules.specs.Processes.{opening, closing, keeping, kept_of, gathering, gathering_anew, goes_on, ends}
 use Rattle.rules.specs.Sizes.{bits, header_at, segment_at, announce_at, header_of, segment_of, announced_of}
-use Rattle.rules.specs.Types.{Value, Witness, Yes, No, Copy, Answered, StoreAnnounces, StoreSwapsHeader, ReadsSegment, ReadsAnnounced, SwapsSegment, ReadsSegmentAgain, ReadsHeader, Process, Settings}
+use Rattle.rules.specs.Types.{Value, Witness, Yes, No, Ok, Copy, Answered, StoreAnnounces, StoreSwapsHeader, ReadsSegment, ReadsAnnounced, SwapsSegment, ReadsSegmentAgain, ReadsHeader, Process, Settings}
 
 -- 10, 11, 12: read the header, keep its tag, then Copy with that header, gathering values; the sequence opens
 abbrev pub load_reads_header : Settings → Process → ℕ → List ℕ → Step
@@ -17,14 +17,14 @@ load_reads_header s p x words = (
 
 -- 13: read the header; yes exactly if its tag is the kept one
 abbrev pub validate_reads_header : Settings → Process → ℕ → List ℕ → Step
-validate_reads_header s p x words = (ends (cond (eqb (tag_of (bits s) (header_of s x words)) (kept_of x p)) Yes No) p, words)
+validate_reads_header s p x words = (ends (Ok (cond (eqb (tag_of (bits s) (header_of s x words)) (kept_of x p)) Yes No)) p, words)
 
 -- 14, 15: read the header; if its tag is not the kept one, no, and the sequence closes
 abbrev pub store_reads_header : Settings → Process → ℕ → List ℕ → Step
 store_reads_header s p x words =
     cond (eqb (tag_of (bits s) (header_of s x words)) (kept_of x p))
     (goes_on (StoreAnnounces x (header_of s x words) 0) p, words)
-    (ends No (closing x p), words)
+    (ends (Ok No) (closing x p), words)
 
 -- 16, 17: write the values into the own announce row, one a step
 abbrev pub store_announces : Settings → Process → ℕ → ℕ → ℕ → ℕ → List ℕ → Step
@@ -44,7 +44,7 @@ store_swaps_header s p me x header words =
       goes_on (ReadsSegment (record { variable = x; header = new_header s me header; segment = 0; gathers = false })) p,
       set words (header_at s x) (new_header s me header),
     )
-    (ends No (closing x p), words)
+    (ends (Ok No) (closing x p), words)
 
 -- 2, 3: read the segment; is its tag the one before the header's?
 abbrev pub reads_segment : Settings → Process → Copy → List ℕ → Step
@@ -80,7 +80,7 @@ saving c value p = cond c.gathers (gathering c.segment value p) p
 
 -- 9, 12 and 20, 21: Copy is through: a load answers the values; a store yes, and its sequence closes
 abbrev pub copy_through : Copy → Process → Answered Process
-copy_through c p = cond c.gathers (ends (Value p.gathered) p) (ends Yes (closing c.variable p))
+copy_through c p = cond c.gathers (ends (Ok (Value p.gathered)) p) (ends (Ok Yes) (closing c.variable p))
 
 -- 1: the next segment, or the end
 abbrev pub copy_on : Settings → Copy → Process → Answered Process
@@ -92,7 +92,7 @@ copy_on s c p =
 -- 7: the header differs: end at once with the process named in the header just read; in a store yes in any case
 abbrev pub copy_cut_short : Settings → Copy → ℕ → Process → Answered Process
 copy_cut_short s c header p =
-    cond c.gathers (ends (Witness (value_of (bits s) header)) p) (ends Yes (closing c.variable p))
+    cond c.gathers (ends (Ok (Witness (value_of (bits s) header))) p) (ends (Ok Yes) (closing c.variable p))
 
 -- 7: read the header; does it differ from the one Copy was given?
 abbrev pub reads_header : Settings → Process → Copy → ℕ → List ℕ → Step

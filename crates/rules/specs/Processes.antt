@@ -1,6 +1,6 @@
 -- A process, changed in one thing; and what a step makes of it.
 use Rattle.std.specs.Prelude.{Bool, true, false, cond, List, [], ◌∷◌, ℕ, zero, suc, ◌+◌, ◌-◌, ◌/◌, ◌%◌, ◌^◌, eqb, get_or, set}
-use Rattle.rules.specs.Types.{Answer, Busy, Answered, Ok, Err, Refusal, Board, Place, Idle, LoadReadsWord, ValidateReadsWord, StoreSwapsWord, LoadReadsHeader, ValidateReadsHeader, StoreReadsHeader, StoreAnnounces, StoreSwapsHeader, ReadsSegment, ReadsAnnounced, SwapsSegment, ReadsSegmentAgain, ReadsHeader, Process}
+use Rattle.rules.specs.Types.{Reply, Busy, Answered, Ok, Err, Refusal, Board, Place, Idle, LoadReadsWord, ValidateReadsWord, StoreSwapsWord, LoadReadsHeader, ValidateReadsHeader, StoreReadsHeader, StoreAnnounces, StoreSwapsHeader, ReadsSegment, ReadsAnnounced, SwapsSegment, ReadsSegmentAgain, ReadsHeader, Process}
 
 abbrev pub is_idle : Place → Bool
 is_idle Idle = true
@@ -67,8 +67,8 @@ abbrev pub goes_on : Place → Process → Answered Process
 goes_on place p = record { after = at place p; answer = Ok Busy }
 
 -- the last step of a call gives its answer, and makes its process idle
-abbrev pub ends : Answer → Process → Answered Process
-ends answer p = record { after = at Idle p; answer = Ok answer }
+abbrev pub ends : Reply → Process → Answered Process
+ends answer p = record { after = at Idle p; answer = answer }
 
 -- a refusal leaves a process, or a board, as found
 abbrev pub refusing : {S : Type 0} → S → Refusal → Answered S

@@ -15,6 +15,7 @@ use Rattle.rules.specs.GoodForm.{one_place, many_place, header_held, copy_held, 
 use Rattle.rules.specs.Processes.{closing, kept_of, goes_on, ends}
 use Rattle.rules.specs.Sizes.{bits, words_used, used_by, header_of, segment_of}
 use Rattle.rules.specs.Steps.{step_from, process_step}
+use Rattle.std.specs.Prelude.{Ok}
 use Rattle.rules.specs.declared.Answer.TheVariants.{No}
 use Rattle.rules.specs.declared.Copy.{Copy}
 use Rattle.rules.specs.declared.Kind.TheVariants.{Many}
@@ -138,7 +139,7 @@ either false one two words = refl
 pub store_only_reads : (x : ℕ) → OnlyReads (StoreReadsHeader x)
 store_only_reads x s p me words =
     let header = header_of s x words in
-    either (eqb (tag_of (bits s) header) (kept_of x p)) (goes_on (StoreAnnounces x header 0) p) (ends No (closing x p)) words
+    either (eqb (tag_of (bits s) header) (kept_of x p)) (goes_on (StoreAnnounces x header 0) p) (ends (Ok No) (closing x p)) words
 
 pub segment_only_read : (c : Copy) → OnlyReads (ReadsSegment c)
 segment_only_read c s p me words =

@@ -163,7 +163,7 @@ module _ (s : Settings) (p : Process) (me : ℕ) (words : List ℕ) where
   onward at_rest busy f = never busy
   onward loads_word busy f = answered _ refl refl refl (λ new. refl)
   onward (validates_word {x = x}) busy f =
-      both_arms (λ (a : Answer). Onward s (Validate x) 0 (ValidateReadsWord x) (ends a p)) (eqb (word_of x words) (kept_of x p)) _ _
+      both_arms (λ (a : Answer). Onward s (Validate x) 0 (ValidateReadsWord x) (ends (Ok a) p)) (eqb (word_of x words) (kept_of x p)) _ _
       (answered _ refl refl refl (λ new. refl))
       (answered _ refl refl refl (λ new. refl))
   onward (stores_word {x = x}) busy one =
@@ -172,7 +172,7 @@ module _ (s : Settings) (p : Process) (me : ℕ) (words : List ℕ) where
       (answered _ refl refl refl (λ new. refl))
   onward (loads_header {x = x}) busy f = goes_on_lem _ refl refl (copies refl (in_load {steps = 1} (omega arith))) (λ new. refl)
   onward (validates_header {x = x}) busy f =
-      both_arms (λ (a : Answer). Onward s (Validate x) 0 (ValidateReadsHeader x) (ends a p))
+      both_arms (λ (a : Answer). Onward s (Validate x) 0 (ValidateReadsHeader x) (ends (Ok a) p))
       (eqb (tag_of (bits s) (header_of s x words)) (kept_of x p)) _ _
       (answered _ refl refl refl (λ new. refl))
       (answered _ refl refl refl (λ new. refl))

@@ -15,7 +15,7 @@ use Rattle.rules.specs.OwnSteps.{taken}
 use Rattle.rules.specs.Processes.{is_idle, is_open, with_closed, kept_of, opening, closing, ends}
 use Rattle.rules.specs.Sizes.{bits, word_at, header_at, segment_at, announce_at, word_of, header_of, segment_of}
 use Rattle.rules.specs.Steps.{step_from}
-use Rattle.rules.specs.Types.{Answer, Copy, Answered, Process, Place, Idle, LoadReadsWord, ValidateReadsWord, StoreSwapsWord, LoadReadsHeader, ValidateReadsHeader, StoreReadsHeader, StoreAnnounces, StoreSwapsHeader, ReadsSegment, ReadsAnnounced, SwapsSegment, ReadsSegmentAgain, ReadsHeader, Settings}
+use Rattle.rules.specs.Types.{Answer, Ok, Copy, Answered, Process, Place, Idle, LoadReadsWord, ValidateReadsWord, StoreSwapsWord, LoadReadsHeader, ValidateReadsHeader, StoreReadsHeader, StoreAnnounces, StoreSwapsHeader, ReadsSegment, ReadsAnnounced, SwapsSegment, ReadsSegmentAgain, ReadsHeader, Settings}
 use Rattle.rules.proofs.Branches.{branch, both_arms}
 use Rattle.rules.proofs.Sequences.Closing.{opening_opens, opening_no_other, closing_closes, closing_no_other}
 use Rattle.rules.proofs.Changes.Places.{variable_at, Writes, open_after}
@@ -137,7 +137,7 @@ framed (LoadReadsWord x) s p me words e =
     reads (opens (LoadReadsWord x) p _ refl refl (word_of x words) refl refl refl)
 framed (ValidateReadsWord x) s p me words e =
     reads
-    (both_arms (λ (answer : Answer). Own (ValidateReadsWord x) p (ends answer p)) (eqb (word_of x words) (kept_of x p)) _ _
+    (both_arms (λ (answer : Answer). Own (ValidateReadsWord x) p (ends (Ok answer) p)) (eqb (word_of x words) (kept_of x p)) _ _
     (stays (ValidateReadsWord x) p _ refl refl refl refl refl)
     (stays (ValidateReadsWord x) p _ refl refl refl refl refl))
 framed (StoreSwapsWord x) s p me words e =
@@ -148,7 +148,7 @@ framed (LoadReadsHeader x) s p me words e =
     reads (opens (LoadReadsHeader x) p _ refl refl (tag_of (bits s) (header_of s x words)) refl refl refl)
 framed (ValidateReadsHeader x) s p me words e =
     reads
-    (both_arms (λ (answer : Answer). Own (ValidateReadsHeader x) p (ends answer p))
+    (both_arms (λ (answer : Answer). Own (ValidateReadsHeader x) p (ends (Ok answer) p))
     (eqb (tag_of (bits s) (header_of s x words)) (kept_of x p)) _ _
     (stays (ValidateReadsHeader x) p _ refl refl refl refl refl)
     (stays (ValidateReadsHeader x) p _ refl refl refl refl refl))
