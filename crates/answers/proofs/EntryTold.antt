@@ -18,7 +18,7 @@ use Rattle.rules.specs.declared.Board.{Board}
 use Rattle.std.specs.Prelude.{Option, Some, None, Result, Ok, Err}
 use Rattle.std.specs.Result.{result_ok}
 use Rattle.word.specs.declared.Refusal.{Refusal}
-use Rattle.rules.specs.Figure4.{Step as Moved}
+use Rattle.rules.specs.Figure4.{Step as OneStep}
 use Rattle.rules.specs.declared.Process.{Process}
 use Rattle.rules.specs.declared.Settings.{Settings}
 use Rattle.rules.proofs.GoodForm.Runs.{begin_in_form, step_in_form}
@@ -83,7 +83,7 @@ told_by number me act w r =
     }
 
 -- the same, by the process that it moves
-abbrev told_at : ℕ → Settings → ℕ → Act → Board → ℕ → Moved → Told
+abbrev told_at : ℕ → Settings → ℕ → Act → Board → ℕ → OneStep → Told
 told_at number s me act board i m =
     record {
       printed = row_of (process_row number s me act m.0);
@@ -100,7 +100,7 @@ module _ (board : Board) (run : Run) (o : InOrder board run.words) where
       omega (arith, o.form.shaped.processes, ltb-true me board.settings.n mine)
 
   -- an event of a process of the board
-  mine_told : (event : Event) (m : Moved) → ltb (process_of event) board.settings.n ≡ true
+  mine_told : (event : Event) (m : OneStep) → ltb (process_of event) board.settings.n ≡ true
       → entry event (state_of board run) ≡ stepped board (process_of event) m
       → event_told board run event ≡ told_at (run.count + 1) board.settings (process_of event) (event_act event) board (process_of event) m
   unfolding event_told numbered_row
@@ -117,7 +117,7 @@ module _ (board : Board) (run : Run) (o : InOrder board run.words) where
       }) (count ∙ ap (λ (t : Bool). cond t (Some (open_count m.0.after.opened board.settings.t)) None) (sym mine))
 
   -- an event of a process that the board has not
-  past_told : (event : Event) (m : Moved) → ltb (process_of event) board.settings.n ≡ false
+  past_told : (event : Event) (m : OneStep) → ltb (process_of event) board.settings.n ≡ false
       → entry event (state_of board run) ≡ stepped board 0 m
       → event_told board run event ≡ told_at (run.count + 1) board.settings (process_of event) (event_act event) board 0 m
   unfolding event_told numbered_row
@@ -133,7 +133,7 @@ module _ (board : Board) (run : Run) (o : InOrder board run.words) where
       }) (count ∙ ap (λ (t : Bool). cond t (Some (open_count m.0.after.opened board.settings.t)) None) (sym past))
 
   -- either way, at the slot
-  slot_told : (event : Event) (m : Process → Moved)
+  slot_told : (event : Event) (m : Process → OneStep)
       → (ltb (process_of event) board.settings.n ≡ true
       → entry event (state_of board run) ≡ stepped board (process_of event) (m (process_at board (process_of event))))
       → (ltb (process_of event) board.settings.n ≡ false
@@ -153,7 +153,7 @@ module _ (board : Board) (run : Run) (o : InOrder board run.words) where
   abbrev pub slot : Result Entry Refusal → ℕ
   slot asked = slot_of asked board.settings.n
 
-  abbrev pub move : Result Entry Refusal → Moved
+  abbrev pub move : Result Entry Refusal → OneStep
   move asked = move_of board.settings asked (process_at board (slot asked)) run.words
 
   abbrev pub tells : Result Entry Refusal → Told

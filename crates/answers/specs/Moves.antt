@@ -3,7 +3,7 @@
 use Rattle.std.specs.Prelude.{ℕ, cond, List, ltb, Option, Some, None, Result, Ok, Err}
 use Rattle.word.specs.declared.Refusal.{Refusal}
 use Rattle.word.specs.declared.Refusal.TheVariants.{NoSuchProcess}
-use Rattle.rules.specs.Figure4.{Step as Moved}
+use Rattle.rules.specs.Figure4.{Step as OneStep}
 use Rattle.rules.specs.Processes.{open_count, refusing}
 use Rattle.rules.specs.Steps.{process_step}
 use Rattle.rules.specs.declared.Answered.{Answered}
@@ -31,10 +31,10 @@ slot_of (Err why) n = 0
 abbrev pub begins : Settings → ℕ → Call → List ℕ → Process → Answered Process
 begins s me call values p = cond (ltb me s.n) (begin_process_rule s p call values) (refusing p NoSuchProcess)
 
-abbrev pub steps : Settings → ℕ → Process → List ℕ → Moved
+abbrev pub steps : Settings → ℕ → Process → List ℕ → OneStep
 steps s me p words = cond (ltb me s.n) (process_step s p me words) (refusing p NoSuchProcess, words)
 
-abbrev pub move_of : Settings → Result Entry Refusal → Process → List ℕ → Moved
+abbrev pub move_of : Settings → Result Entry Refusal → Process → List ℕ → OneStep
 move_of s (Ok (Begin me call values)) p words = (begins s me call values p, words)
 move_of s (Ok (Step me)) p words = steps s me p words
 move_of s (Err why) p words = (refusing p why, words)

@@ -22,7 +22,8 @@ pub enum Who {
     Process(u64, Act),
 }
 
-// Where there is no open count its field is blank. Of the values of a load the first `w` are printed.
+// Where there is no open count its field is blank. Of the values of a load the first `w` are printed: `w` is the board's, and
+// so stands beside every answer.
 #[derive(Clone, Copy)]
 pub struct Row {
     pub number: u64,

@@ -38,6 +38,7 @@ fn read_values(bytes: &[u8], count: usize) -> Option<Values>
     ensures { result ≡ values_read bytes.now count }
 {
     let mut values = [0; 4];
+    // By number, since a value's place is that of its field.
     for i in 0..count {
         values[i] = number_at(bytes, FIRST_VALUE + i)?;
     }

@@ -11,7 +11,7 @@ pub use Rattle.rules.proofs.Cases.FormCases.{ClauseLimits, every_clause}
 -- each address is among the words used, and different places have different addresses
 pub use Rattle.rules.proofs.Sizes.Addresses.{used_most, header_in, segment_in, announce_in, header_header, segment_segment, header_segment, header_announce, segment_announce, announce_announce}
 -- packing and unpacking tell document 01's numbers and values, and undo each other
-pub use Rattle.word.proofs.Packing.{told, undone, packed_unpacks, unpacked_packs}
+pub use Rattle.word.proofs.Packing.{told, number_told, undone, packed_unpacks, unpacked_packs}
 -- packing takes b, tag and value up to their limits, and refuses what is past them
 pub use Rattle.word.proofs.Cases.{Limits, limits}
 -- the tag after the greatest is 0, and the tag before 0 is the greatest; next and previous tag undo each other

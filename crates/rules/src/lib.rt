@@ -20,7 +20,7 @@ pub struct Settings {
     pub layout: Layout,
 }
 
-// Four values, of which a board uses the first W.
+// Four values, of which a board uses the first W: memory is fixed, so the greatest W has room.
 pub type Values = [u64; 4];
 
 // A call of a variable. The values of a store lie beside it.
@@ -73,6 +73,7 @@ pub struct Process {
     pub gathered: Values,
 }
 
+// Sixteen processes, of which the first N take part: memory is fixed, so the greatest N has room.
 #[derive(Clone, Copy, Debug, PartialEq, Eq)]
 pub struct Board {
     pub settings: Settings,
