@@ -64,10 +64,9 @@ pub(crate) fn feed_set_up(
         take_set_up(session, &line[..held], mem, out)
     } else {
         Session {
-            stage: Stage::Waiting,
-            count: session.count,
             held,
             cr: found.cr,
+            ..session
         }
     };
     Fed {

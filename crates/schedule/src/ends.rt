@@ -18,9 +18,9 @@ pub(crate) fn end_with(row: Row, session: Session, out: &mut Writer) -> Session
     put_row(row, out);
     Session {
         stage: Stage::Over,
-        count: session.count,
         held: 0,
         cr: false,
+        ..session
     }
 }
 

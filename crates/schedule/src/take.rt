@@ -70,10 +70,9 @@ pub(crate) fn take_record(
         Stage::Waiting => take_set_up(session, bytes, mem, out),
         Stage::Running(board) => take_schedule(board, session, bytes, mem, out),
         Stage::Over => Session {
-            stage: Stage::Over,
-            count: session.count,
             held: 0,
             cr: false,
+            ..session
         },
     }
 }

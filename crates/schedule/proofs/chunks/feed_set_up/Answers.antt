@@ -1,12 +1,11 @@
 -- `feed_set_up` meets its contract: the record is gathered, and answered where it is closed. Assumes nothing.
 use native.Mathlib.Omega.{arith}
-use mathlib.Core.Path.{refl, sym, ap, ◌∙◌}
+use mathlib.Core.Path.{refl, ap}
 use Rattle.schedule.proofs.FedOn.{fed_open, fed_left, reads_waiting, set_up_leaves}
 use Rattle.schedule.proofs.Tellings.{in_stage, session_order, record_order}
 use lib.ListN.{drop}
-use Rattle.schedule.specs.Feeding.{run_of, feeding_to}
+use Rattle.schedule.specs.Feeding.{run_of}
 use Rattle.schedule.specs.declared.Session.{Session}
-use Rattle.answers.specs.declared.Stage.{Stage}
 use Rattle.answers.specs.declared.Stage.TheVariants.{Waiting}
 use Rattle.schedule.proofs.chunks.feed_set_up.Goals as goal
 
@@ -31,16 +30,10 @@ returns-then-found c =
 pub returns-else-found : goal.returns-else-found
 returns-else-found c =
     let a = c.args in
-    let found = c.gather-found.result in
-    let line = c.gather-found.new.line in
     record {
-      fed = ap (λ (s : Stage). (
-        feeding_to (record { stage = s; count = a.session.count; held = found.held; cr = found.cr }) line a.mem.now a.out.now,
-        drop found.next a.chunk.now,
-      )) (sym c.requires.0)
-          ∙ fed_open a.session a.line.now a.mem.now a.out.now (drop a.at a.chunk.now) _ _ _ c.requires.3
+      fed = fed_open a.session a.line.now a.mem.now a.out.now (drop a.at a.chunk.now) _ _ _ c.requires.3
           (reads_waiting a.session.stage c.requires.0) c.gather-found.ensures.gathered c.if-found.false;
-      ready = record { order = tt; held = c.gather-found.ensures.kept; long = c.gather-found.ensures.long };
+      ready = record { order = c.requires.1.order; held = c.gather-found.ensures.kept; long = c.gather-found.ensures.long };
       within = c.gather-found.ensures.within;
       same = record { name = refl; long = refl };
     }
