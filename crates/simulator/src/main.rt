@@ -60,55 +60,54 @@ fn make_room(rt: HostRuntime, out: &[u8], held: Output) -> Output
 // All bytes of one chunk.
 fn take_chunk(
     rt: HostRuntime,
-    mut session: Session,
-    mut held: Output,
+    mut state: State,
     chunk: &[u8],
     line: &mut [u8],
     mem: &mut [u64],
     out: &mut [u8],
 ) -> State
-    requires { Stands (point session line.old mem.old out.old held) }
+    requires { Stands (point state.session line.old mem.old out.old state.held) }
     ensures { TakesChunk
-        (point session line.old mem.old out.old held) chunk.now
+        (point state.session line.old mem.old out.old state.held) chunk.now
         (point result.session line.new mem.new out.new result.held) }
 {
     let mut at: usize = 0;
     // A turn takes as many bytes as there is room for rows, so that no `for` counts them.
     while at < chunk.len() {
-        let room = make_room(rt, out, held);
+        let room = make_room(rt, out, state.held);
         let mut lent = Writer {
             bytes: out,
             len: room.waiting(),
         };
-        let fed = schedule::feed(session, chunk, at, line, mem, &mut lent);
-        session = fed.session;
+        let fed = schedule::feed(state.session, chunk, at, line, mem, &mut lent);
         at = fed.next;
-        held = room.grown(lent.len);
+        state = State {
+            session: fed.session,
+            held: room.grown(lent.len),
+        };
     }
-    State { session, held }
+    state
 }
 
 // One read of the input, and all that it gave.
 fn turn(
     rt: HostRuntime,
-    session: Session,
-    held: Output,
+    state: State,
     input: Input,
     line: &mut [u8],
     mem: &mut [u64],
     buffer: &mut [u8],
     out: &mut [u8],
 ) -> AfterRead
-    requires { Stands (point session line.old mem.old out.old held) × (input.total + length buffer.old < count_limit) }
+    requires { Stands (point state.session line.old mem.old out.old state.held) × (input.total + length buffer.old < count_limit) }
     ensures { Turns
-        (point session line.old mem.old out.old held) input
+        (point state.session line.old mem.old out.old state.held) input
         (point result.state.session line.new mem.new out.new result.state.held) result.input buffer.new }
 {
     let after = input.read(rt, buffer);
     let got = after.total() - input.total();
-    let state = take_chunk(rt, session, held, &buffer[..got], line, mem, out);
     AfterRead {
-        state,
+        state: take_chunk(rt, state, &buffer[..got], line, mem, out),
         input: after,
     }
 }
@@ -122,26 +121,24 @@ fn has_stopped(session: Session, input: Input) -> bool
 // The whole input, up to its end or the run's.
 fn read_all(
     rt: HostRuntime,
-    session: Session,
-    held: Output,
+    state: State,
     line: &mut [u8],
     mem: &mut [u64],
     buffer: &mut [u8],
     out: &mut [u8],
 ) -> AfterRead
-    requires { Stands (point session line.old mem.old out.old held) × (length buffer.old ≡ buffer_length) }
+    requires { Stands (point state.session line.old mem.old out.old state.held) × (length buffer.old ≡ buffer_length) }
     ensures { ReadsAll
-        (point session line.old mem.old out.old held)
+        (point state.session line.old mem.old out.old state.held)
         (point result.state.session line.new mem.new out.new result.state.held) result.input }
 {
     let mut after = AfterRead {
-        state: State { session, held },
+        state,
         input: Input::unread(),
     };
     // What a read gives is not known before it, so that no `for` counts the turns.
     while after.input.total() < MOST_READ {
-        let State { session, held } = after.state;
-        after = turn(rt, session, held, after.input, line, mem, buffer, out);
+        after = turn(rt, after.state, after.input, line, mem, buffer, out);
         if has_stopped(after.state.session, after.input) {
             return after;
         }
@@ -150,23 +147,16 @@ fn read_all(
 }
 
 // The end of the input: the output with the last record's row.
-fn end(
-    rt: HostRuntime,
-    session: Session,
-    held: Output,
-    line: &[u8],
-    mem: &mut [u64],
-    out: &mut [u8],
-) -> Output
-    requires { Stands (point session line.now mem.old out.old held) }
-    ensures { Finishes (point session line.now mem.old out.old held) out.new result }
+fn end(rt: HostRuntime, state: State, line: &[u8], mem: &mut [u64], out: &mut [u8]) -> Output
+    requires { Stands (point state.session line.now mem.old out.old state.held) }
+    ensures { Finishes (point state.session line.now mem.old out.old state.held) out.new result }
 {
-    let room = make_room(rt, out, held);
+    let room = make_room(rt, out, state.held);
     let mut lent = Writer {
         bytes: out,
         len: room.waiting(),
     };
-    schedule::finish(session, line, mem, &mut lent);
+    schedule::finish(state.session, line, mem, &mut lent);
     room.grown(lent.len)
 }
 
@@ -184,11 +174,13 @@ fn run(
     let mut lent = Writer { bytes: out, len: 0 };
     let session = schedule::start(&mut lent);
     let heading = Output::begun(lent.len);
-    let read = read_all(rt, session, heading, line, mem, buffer, out);
-    let state = read.state;
-    let held = end(rt, state.session, state.held, line, mem, out);
+    let begun = State {
+        session,
+        held: heading,
+    };
+    let read = read_all(rt, begun, line, mem, buffer, out);
     Ended {
-        held,
+        held: end(rt, read.state, line, mem, out),
         input: read.input,
     }
 }

@@ -11,6 +11,6 @@ make_room-room-requires c = can_flush _ c.requires
 pub grown-requires : goal.grown-requires
 grown-requires c =
     let a = c.args in
-    let roomy = feeding a.session a.line.now a.mem.now a.out.now c.waiting.result in
+    let roomy = feeding a.state.session a.line.now a.mem.now a.out.now c.waiting.result in
     let free = room_free _ c.requires _ c.make_room-room.ensures in
     omega (arith, (finished_grown roomy _ c.finish.ensures.fed (omega (arith, free, c.waiting.ensures))).1, c.waiting.ensures)

@@ -22,4 +22,4 @@ returns c =
     (begins _ c.args.line.now c.args.mem.now c.args.out.now c.start-session.new.out _ (search rules) _ begun.session begun.written c.requires.room
     c.requires.words_clear c.begun-heading.ensures)
     (ap (λ (o : Output). o.written) c.begun-heading.ensures)
-    _ _ c.read_all-read.ensures _ _ c.end-held.ensures
+    _ _ c.read_all-read.ensures _ _ c.end.ensures

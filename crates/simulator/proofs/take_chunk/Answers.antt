@@ -11,8 +11,8 @@ loop-at-init c = (omega arith, record { taken = taken_none _; stands = c.require
 pub make_room-room-requires : goal.make_room-room-requires
 make_room-room-requires c = can_flush _ c.loop-at.invariant.1.stands
 
-pub grown-held-requires : goal.grown-held-requires
-grown-held-requires c =
+pub grown-requires : goal.grown-requires
+grown-requires c =
     let loop = c.loop-at in
     let put = rows_put _ loop.invariant.1.stands _ c.make_room-room.ensures _ _ _ refl c.waiting.ensures _ _ _ _ c.feed-fed.ensures in
     omega (arith, put)
@@ -29,5 +29,5 @@ loop-at-preserved c =
     let loop = c.loop-at in (
       c.feed-fed.ensures.within,
       goes_on_lem _ loop.invariant.1.stands _ c.make_room-room.ensures _ _ _ refl c.waiting.ensures _ _ _ _ c.feed-fed.ensures
-          _ loop.invariant.0 _ (search rules) _ c.grown-held.ensures loop.invariant.1.taken,
+          _ loop.invariant.0 _ (search rules) _ c.grown.ensures loop.invariant.1.taken,
     )

@@ -9,9 +9,9 @@ abbrev pub invariant-loop-at : goal.invariant-loop-at
 invariant-loop-at l =
     (l.at ≤ length l.chunk)
     × TakesChunk
-    (point l.initial.session l.initial.line l.initial.mem l.initial.out l.initial.held)
+    (point l.initial.state.session l.initial.line l.initial.mem l.initial.out l.initial.state.held)
     (take l.at l.chunk)
-    (point l.session l.line l.mem l.out l.held)
+    (point l.state.session l.line l.mem l.out l.state.held)
 
 abbrev pub decreases-loop-at : goal.decreases-loop-at
 decreases-loop-at l = length l.chunk - l.at
