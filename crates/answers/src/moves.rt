@@ -1,4 +1,5 @@
-// A schedule record answered on the one process that it moves, where the board is in good form.
+// A schedule record answered on the one process that it moves, where the board is in good form. What it asks stands in each
+// clause, as in `answer`, whose callers a narrower type would ask more of.
 ghost use Rattle.std.specs.Prelude.{◌≡◌, true, List, ℕ, ◌≤◌, ◌<◌, length};
 ghost use Rattle.rules.specs.Bounds.{Sized};
 ghost use Rattle.rules.specs.Figure4.{Step};

@@ -1,5 +1,6 @@
 // The code of Figure 6's Copy, with document 01's mended line 6: a function for each place, which takes the step from
 // there. The numbers are the figure's lines.
+// What they ask of settings stands in each clause: a type that is within the sizes would ask more of public functions' callers.
 #![tactic(auto)]
 
 ghost use Rattle.std.specs.Prelude.{◌≡◌, ◌≤◌, ◌<◌, length};

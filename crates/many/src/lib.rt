@@ -1,5 +1,6 @@
 // The code of Figure 6 of source document 001, many segments, but for its Copy: a function for each place, which takes
 // the step from there. Here the load's and the validate's own places; the numbers are the figure's lines.
+// What they ask of settings stands in each clause: a type that is within the sizes would ask more of public functions' callers.
 #![tactic(auto)]
 
 ghost use Rattle.std.specs.Prelude.{◌≡◌, ◌≤◌, ◌<◌, length};

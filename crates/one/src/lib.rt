@@ -1,4 +1,5 @@
 // The code of Figure 4 of source document 001, one word: a function for each place, which takes the step from there.
+// What they ask of settings stands in each clause: a type that is within the sizes would ask more of public functions' callers.
 #![tactic(auto)]
 
 ghost use Rattle.std.specs.Prelude.{◌≡◌, ◌≤◌, ◌<◌, length, get_or};

@@ -1,6 +1,7 @@
 // Where the shared words of kind `many` lie: variable by variable, each header before its segments; then the announce
 // rows, process by process. Of the code only these functions know that order, and `words_used` of `form`, which counts the
 // words. In kind `one` a variable's word lies at the variable's number, and the crate `one` goes by that.
+// What they ask of settings stands in each clause: a type that is within the sizes would ask more of public functions' callers.
 ghost use Rattle.std.specs.Prelude.{◌≡◌, ◌<◌};
 ghost use Rattle.rules.specs.Bounds.{Sized};
 ghost use Rattle.rules.specs.Sizes.{header_at, segment_at, announce_at, used_by};

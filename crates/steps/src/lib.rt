@@ -1,4 +1,6 @@
-// A call's first place, and the step that a process in good form takes from each place.
+// A call's first place, and the step that a process in good form takes from each place: a match on its
+// case, which holds what the step needs, as document 01 names the form.
+// What a step asks of settings stands in each clause: a type that is within the sizes would ask more of public functions' callers.
 #![tactic(auto)]
 
 ghost use Rattle.std.specs.Prelude.{◌≡◌, true, ◌≤◌, ◌<◌, length};

@@ -47,6 +47,7 @@ fn power_of_two(exponent: u64) -> u64
     1 << exponent
 }
 
+// What needs tag bits that stand says so in its clause: a type for them would ask more of public functions' callers.
 impl Layout {
     pub const LEAST_BITS: u64 = 4;
 
