@@ -6,7 +6,7 @@ use mathlib.Core.Bool.{Bool, true, false, cond}
 use mathlib.Core.List.{List}
 use borrow.Author.Tests.{le-ltb}
 use lib.Dec.{eqb}
-use lib.ListN.{length}
+use lib.ListN.{length, take}
 use Rattle.rules.specs.Entry.{set_up_rule}
 use Rattle.rules.specs.declared.Board.{Board}
 use Rattle.std.specs.Prelude.{Result, Ok, Err}
@@ -17,9 +17,10 @@ use Rattle.writing.specs.declared.writer.Writer.{Writer}
 use Rattle.printout.specs.Writing.{longest_row}
 use Rattle.schedule.specs.Telling.{Tells}
 use Rattle.schedule.specs.Feeding.{Feeding, run_of, feeding_to, telling, is_full, stage_number, same_stage, feed_of}
-use Rattle.schedule.specs.Gathering.{Held, bytes_of, gather_of}
+use Rattle.schedule.specs.Gathering.{held_in, gather_of}
 use Rattle.answers.specs.Run.{Run, by_set_up, by_settings, set_up_told, record_told}
 use Rattle.schedule.specs.declared.Session.{Session}
+use Rattle.schedule.specs.declared.gather.Kept.{Kept}
 use Rattle.answers.specs.declared.Stage.{Stage}
 use Rattle.answers.specs.declared.Stage.TheVariants.{Waiting, Running, Over}
 use Rattle.schedule.proofs.Feeding.{goes_on, after_gathering, Reads, waiting_reads, feed_gather}
@@ -32,44 +33,44 @@ pub has_room : (f : Feeding) → longest_row ≤ length f.out - f.len → is_ful
 unfolding is_full
 has_room f room = le-ltb (length f.out - f.len) longest_row room
 
-module _ (session : Session) (line words : List ℕ) (out : Writer) (bytes : List ℕ) (h : Held) (left : List ℕ) (closed : Bool)
+module _ (session : Session) (line words : List ℕ) (out : Writer) (bytes line_gathered : List ℕ) (held : Kept) (left : List ℕ) (closed : Bool)
     (room : longest_row ≤ length out.bytes.now - out.len) (reads : Reads session.stage)
-    (g : record { held = h; left = left; closed = closed } ≡ gather_of (record { line = line; held = session.held; cr = session.cr }) bytes) where
+    (g : record { held = held_in line_gathered held; left = left; closed = closed } ≡ gather_of (held_in line session.held) bytes) where
   gathered : feed_of (feeding_to session line words out) bytes
-      ≡ after_gathering (feeding_to session line words out) (record { held = h; left = left; closed = closed })
+      ≡ after_gathering (feeding_to session line words out) (record { held = held_in line_gathered held; left = left; closed = closed })
   gathered =
       feed_gather (feeding_to session line words out) bytes (has_room (feeding_to session line words out) room) reads
       ∙ ap (after_gathering (feeding_to session line words out)) (sym g)
 
   -- the bytes ended first
   pub fed_open : closed ≡ false
-      → (feeding_to (record { stage = session.stage; count = session.count; held = h.held; cr = h.cr }) h.line words out, left)
+      → (feeding_to (record { stage = session.stage; count = session.count; held = held }) line_gathered words out, left)
       ≡ feed_of (feeding_to session line words out) bytes
-  fed_open e = sym (gathered ∙ ap (λ (t : Bool). after_gathering (feeding_to session line words out) (record { held = h; left = left; closed = t })) e)
+  fed_open e = sym (gathered ∙ ap (λ (t : Bool). after_gathering (feeding_to session line words out) (record { held = held_in line_gathered held; left = left; closed = t })) e)
 
   module _ (after : Session) (words_after : List ℕ) (out_after : Writer) (e : closed ≡ true)
-      (k : Tells (record_told (run_of session words) (bytes_of h)) out after words_after out_after) where
+      (k : Tells (record_told (run_of session words) (take held.len line_gathered)) out after words_after out_after) where
     answered_on : feed_of (feeding_to session line words out) bytes
-        ≡ goes_on (run_of session words) (feeding_to after h.line words_after out_after) left
+        ≡ goes_on (run_of session words) (feeding_to after line_gathered words_after out_after) left
     unfolding telling
     answered_on =
         gathered
-        ∙ ap (λ (t : Bool). after_gathering (feeding_to session line words out) (record { held = h; left = left; closed = t })) e
+        ∙ ap (λ (t : Bool). after_gathering (feeding_to session line words out) (record { held = held_in line_gathered held; left = left; closed = t })) e
         ∙ ap (λ (f : Feeding). goes_on (run_of session words) f left)
-        (sym (tells_feeding (record_told (run_of session words) (bytes_of h)) session after h.line words words_after out out_after k))
+        (sym (tells_feeding (record_told (run_of session words) (take held.len line_gathered)) session after line_gathered words words_after out out_after k))
 
     abbrev either : Bool → Feeding × List ℕ
     either same =
-        cond same (feed_of (feeding_to after h.line words_after out_after) left)
-        (feeding_to after h.line words_after out_after, left)
+        cond same (feed_of (feeding_to after line_gathered words_after out_after) left)
+        (feeding_to after line_gathered words_after out_after, left)
 
     -- the stage has changed, or not
     pub fed_left : same_stage (run_of session words) (run_of after words_after) ≡ false
-        → (feeding_to after h.line words_after out_after, left) ≡ feed_of (feeding_to session line words out) bytes
+        → (feeding_to after line_gathered words_after out_after, left) ≡ feed_of (feeding_to session line words out) bytes
     fed_left other = sym (answered_on ∙ ap either other)
 
     pub fed_on : same_stage (run_of session words) (run_of after words_after) ≡ true
-        → feed_of (feeding_to after h.line words_after out_after) left ≡ feed_of (feeding_to session line words out) bytes
+        → feed_of (feeding_to after line_gathered words_after out_after) left ≡ feed_of (feeding_to session line words out) bytes
     fed_on same = sym (answered_on ∙ ap either same)
 
 -- stages that differ, and stages that do not

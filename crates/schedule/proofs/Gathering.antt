@@ -20,21 +20,10 @@ module _ (h : Held) (s : List ℕ) (at i : ℕ) (l : i < length (take (length s 
   abbrev byte : ℕ
   byte = get_or (take (length s - at) (drop at s)) i 0
 
-  abbrev without : Held
-  without = record { line = h.line; held = h.held; cr = false }
-
   step : drop (at + i) s ≡ byte ∷ drop (at + i + 1) s
   step = let w : at + i < length s = omega (arith, within s at i l) in rw (take_rest, get_or-drop) (drop_step s (at + i) w)
 
-  module _ (test : Bool) (says : test ≡ (eqb byte 10 && h.cr)) (line : List ℕ) (held : ℕ)
-      (p : line ≡ (put without byte).line) (q : held ≡ (put without byte).held) where
-    abbrev after : Held
-    after = record { line = line; held = held; cr = eqb byte 13 }
-
-    same : after ≡ put h byte
-    unfolding put
-    same = λ i. record { line = p i; held = q i; cr = eqb byte 13 }
-
+  module _ (test : Bool) (says : test ≡ (eqb byte 10 && h.cr)) (after : Held) (same : after ≡ put h byte) where
     pub gather_closed : test ≡ true
         → ◌≡◌ {A = Gathered} (record { held = after; left = drop (at + i + 1) s; closed = true }) (gather_of h (drop (at + i) s))
     unfolding gather_of closes

@@ -14,10 +14,11 @@ use Rattle.printout.specs.Writing.{longest_row}
 use Rattle.printout.specs.declared.Row.{Row}
 use Rattle.schedule.specs.Telling.{EndsWithRow}
 use Rattle.schedule.specs.Feeding.{Feeding, feeding_to, is_full, feed_of}
-use Rattle.schedule.specs.Gathering.{Held, Gathered, line_length, put, closes, gather_of}
+use Rattle.schedule.specs.Gathering.{Held, Gathered, line_length, held_in, put, closes, gather_of}
 use Rattle.answers.specs.Order.{InOrder}
 use Rattle.schedule.specs.Ready.{Ready}
 use Rattle.schedule.specs.declared.Session.{Session}
+use Rattle.schedule.specs.declared.gather.Kept.{Kept}
 use Rattle.answers.specs.declared.Stage.{Stage}
 use Rattle.answers.specs.declared.Stage.TheVariants.{Running}
 use Rattle.schedule.proofs.RunningOn.{running, opened}
@@ -71,15 +72,15 @@ none_left f left e = subst (λ (l : List ℕ). feed_of f l ≡ (f, l)) (sym e) r
 pub used_up : (f : Feeding) (chunk : List ℕ) (at : ℕ) → length chunk ≤ at → (f, drop at chunk) ≡ feed_of f (drop at chunk)
 used_up f chunk at l = sym (none_left f (drop at chunk) (drop_of_length-le chunk l))
 
-pub open_on : (board : Board) (count held : ℕ) (cr : Bool) (line words : List ℕ) (out : Writer) (bytes : List ℕ) (h : Held) (left : List ℕ) (closed : Bool)
+pub open_on : (board : Board) (count : ℕ) (held : Kept) (line words : List ℕ) (out : Writer) (bytes line_gathered : List ℕ) (now : Kept) (left : List ℕ) (closed : Bool)
     → longest_row ≤ length out.bytes.now - out.len
-    → record { held = h; left = left; closed = closed } ≡ gather_of (record { line = line; held = held; cr = cr }) bytes → closed ≡ false
-    → feed_of (feeding_to (running board count h.held h.cr) h.line words out) left ≡ feed_of (feeding_to (running board count held cr) line words out) bytes
-open_on board count held cr line words out bytes h left closed room g e =
+    → record { held = held_in line_gathered now; left = left; closed = closed } ≡ gather_of (held_in line held) bytes → closed ≡ false
+    → feed_of (feeding_to (running board count now) line_gathered words out) left ≡ feed_of (feeding_to (running board count held) line words out) bytes
+open_on board count held line words out bytes line_gathered now left closed room g e =
     let none : left ≡ [] =
     ap (λ (x : Gathered). x.left) g
-    ∙ open_left (record { line = line; held = held; cr = cr }) bytes (sym (ap (λ (x : Gathered). x.closed) g) ∙ e) in
-    none_left _ left none ∙ opened board count held cr line words out bytes h left closed room g e
+    ∙ open_left (held_in line held) bytes (sym (ap (λ (x : Gathered). x.closed) g) ∙ e) in
+    none_left _ left none ∙ opened board count held line words out bytes line_gathered now left closed room g e
 
 -- the room for a row, by its test
 pub is_full_lem : (f : Feeding) (t answer : Bool) → t ≡ ltb (length f.out - f.len) longest_row → t ≡ answer → is_full f ≡ answer
@@ -91,14 +92,14 @@ room free t e q = ltb-false free longest_row (sym e ∙ q)
 
 -- a session that runs
 pub as_running : (board : Board) (session : Session) (line words : List ℕ) (out : Writer) (bytes : List ℕ) → session.stage ≡ Running board
-    → feed_of (feeding_to (running board session.count session.held session.cr) line words out) bytes
+    → feed_of (feeding_to (running board session.count session.held) line words out) bytes
     ≡ feed_of (feeding_to session line words out) bytes
 as_running board session line words out bytes e =
-    ap (λ (s : Stage). feed_of (feeding_to (record { stage = s; count = session.count; held = session.held; cr = session.cr }) line words out) bytes) (sym e)
+    ap (λ (s : Stage). feed_of (feeding_to (record { stage = s; count = session.count; held = session.held }) line words out) bytes) (sym e)
 
-pub running_ready : (board : Board) (count held : ℕ) (cr : Bool) (line words : List ℕ)
-    → InOrder board words → held ≤ line_length → length line ≡ line_length → Ready (running board count held cr) line words
-running_ready board count held cr line words o h l = record { order = o; held = h; long = l }
+pub running_ready : (board : Board) (count : ℕ) (held : Kept) (line words : List ℕ)
+    → InOrder board words → held.len ≤ line_length → length line ≡ line_length → Ready (running board count held) line words
+running_ready board count held line words o h l = record { order = o; held = h; long = l }
 
 pub ended_ready : (row : Row) (session after : Session) (out out_after : Writer) (line words : List ℕ) → EndsWithRow row session out after out_after
     → length line ≡ line_length → Ready after line words

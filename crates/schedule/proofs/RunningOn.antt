@@ -4,7 +4,7 @@ use Prim.Native.Nat.{ℕ, ◌+◌, ◌-◌, ◌≤◌, ◌<◌}
 use mathlib.Core.Path.{◌≡◌, refl, sym, ap, ◌∙◌, subst}
 use mathlib.Core.Bool.{Bool, true, false}
 use mathlib.Core.List.{List}
-use lib.ListN.{length}
+use lib.ListN.{length, take}
 use Rattle.word.specs.declared.Refusal.TheVariants.{TooManyRecords}
 use Rattle.rules.specs.Bounds.{Sized}
 use Rattle.rules.specs.Processes.{process_at, put_process}
@@ -23,13 +23,14 @@ use Rattle.printout.specs.Writing.{longest_row}
 use Rattle.answers.specs.Answering.{Answers}
 use Rattle.schedule.specs.Telling.{Tells, over_of, EndsWithRow}
 use Rattle.schedule.specs.Feeding.{run_of, feeding_to, feed_of}
-use Rattle.schedule.specs.Gathering.{Held, bytes_of, gather_of}
+use Rattle.schedule.specs.Gathering.{held_in, nothing, gather_of}
 use Rattle.answers.specs.Moves.{slot_of}
 use Rattle.answers.specs.Order.{InOrder}
 use Rattle.answers.specs.Run.{nobodys_row, most_records, record_told}
 use Rattle.schedule.specs.Feeds.{Feeds}
 use Rattle.schedule.specs.declared.Fed.{Fed}
 use Rattle.schedule.specs.declared.Session.{Session}
+use Rattle.schedule.specs.declared.gather.Kept.{Kept}
 use Rattle.answers.specs.declared.Stage.TheVariants.{Running, Over}
 use Rattle.schedule.proofs.Feeding.{running_reads}
 use Rattle.schedule.proofs.FedOn.{fed_open, fed_left, fed_on, stage_is}
@@ -37,12 +38,12 @@ use Rattle.answers.proofs.OneProcess.{all_sized}
 use Rattle.schedule.proofs.Tellings.{read_tells, within_records, past_records, in_stage, record_order, session_order}
 
 -- a running session
-abbrev pub running : Board → ℕ → ℕ → Bool → Session
-running board count held cr = record { stage = Running board; count = count; held = held; cr = cr }
+abbrev pub running : Board → ℕ → Kept → Session
+running board count held = record { stage = Running board; count = count; held = held }
 
 -- a running session after some bytes
-abbrev pub fed_running : Board → ℕ → ℕ → Bool → ℕ → Fed
-fed_running board count held cr next = record { session = running board count held cr; next = next }
+abbrev pub fed_running : Board → ℕ → Kept → ℕ → Fed
+fed_running board count held next = record { session = running board count held; next = next }
 
 -- what feeding leaves, of what it returns
 pub feeds_as : (r right : Fed) {session : Session} {chunk line words line_after words_after : List ℕ} {out out_after : Writer} {at : ℕ} → r ≡ right
@@ -69,54 +70,54 @@ served board words o me mine =
       clean = clean_words board words o.form;
     }
 
-module _ (board : Board) (count held : ℕ) (cr : Bool) (line words : List ℕ) (out : Writer) (bytes : List ℕ) (h : Held) (left : List ℕ) (closed : Bool)
+module _ (board : Board) (count : ℕ) (held : Kept) (line words : List ℕ) (out : Writer) (bytes line_gathered : List ℕ) (now : Kept) (left : List ℕ) (closed : Bool)
     (room : longest_row ≤ length out.bytes.now - out.len)
-    (g : record { held = h; left = left; closed = closed } ≡ gather_of (record { line = line; held = held; cr = cr }) bytes) where
+    (g : record { held = held_in line_gathered now; left = left; closed = closed } ≡ gather_of (held_in line held) bytes) where
   -- the bytes ended first
   pub opened : closed ≡ false
-      → (feeding_to (running board count h.held h.cr) h.line words out, left) ≡ feed_of (feeding_to (running board count held cr) line words out) bytes
-  opened e = fed_open (running board count held cr) line words out bytes h left closed room (running_reads board) g e
+      → (feeding_to (running board count now) line_gathered words out, left) ≡ feed_of (feeding_to (running board count held) line words out) bytes
+  opened e = fed_open (running board count held) line words out bytes line_gathered now left closed room (running_reads board) g e
 
   -- one record too many
   pub too_many : (session after : Session) (out_after : Writer) → closed ≡ true → most_records ≤ count
-      → session ≡ running board count h.held h.cr
+      → session ≡ running board count now
       → EndsWithRow (nobodys_row (most_records + 1) TooManyRecords) session out after out_after
-      → (feeding_to after h.line words out_after, left) ≡ feed_of (feeding_to (running board count held cr) line words out) bytes
+      → (feeding_to after line_gathered words out_after, left) ≡ feed_of (feeding_to (running board count held) line words out) bytes
   too_many session after out_after e many x k =
-      let moved : EndsWithRow (nobodys_row (most_records + 1) TooManyRecords) (running board count held cr) out after out_after =
+      let moved : EndsWithRow (nobodys_row (most_records + 1) TooManyRecords) (running board count held) out after out_after =
       record { over = k.over ∙ ap over_of x; printed = k.printed } in
-      let told = in_stage (running board count held cr) words out (Running board) (bytes_of h) after words out_after refl
-      (past_records board (running board count held cr) words out (bytes_of h) after out_after many moved) in
-      fed_left (running board count held cr) line words out bytes h left closed room (running_reads board) g after words out_after e told
-      (stage_is (run_of (running board count held cr) words) (run_of after words) (Running board) Over refl (ap (λ (s : Session). s.stage) k.over))
+      let told = in_stage (running board count held) words out (Running board) (take now.len line_gathered) after words out_after refl
+      (past_records board (running board count held) words out (take now.len line_gathered) after out_after many moved) in
+      fed_left (running board count held) line words out bytes line_gathered now left closed room (running_reads board) g after words out_after e told
+      (stage_is (run_of (running board count held) words) (run_of after words) (Running board) Over refl (ap (λ (s : Session). s.stage) k.over))
 
   -- a record answered
   module _ (o : InOrder board words) (s : Settings) (same : board.settings ≡ s) (read : Result Entry Refusal) (me : ℕ) (q : Process)
       (words_after : List ℕ) (out_after : Writer) (e : closed ≡ true) (few : count < most_records)
-      (r : read ≡ schedule_of (bytes_of h) s.w) (at : me ≡ slot_of read s.n)
+      (r : read ≡ schedule_of (take now.len line_gathered) s.w) (at : me ≡ slot_of read s.n)
       (k : Answers (count + 1) s read (process_at board me) words out q words_after out_after) where
-    told : Tells (record_told (run_of (running board count held cr) words) (bytes_of h)) out (running (put_process board me q) (count + 1) 0 false) words_after out_after
+    told : Tells (record_told (run_of (running board count held) words) (take now.len line_gathered)) out (running (put_process board me q) (count + 1) nothing) words_after out_after
     told =
-        in_stage (running board count held cr) words out (Running board) (bytes_of h) (running (put_process board me q) (count + 1) 0 false) words_after out_after refl
-        (within_records board (running board count held cr) words out (bytes_of h) read (running (put_process board me q) (count + 1) 0 false) words_after out_after few
-        (r ∙ ap (λ (z : Settings). schedule_of (bytes_of h) z.w) (sym same))
-        (read_tells board (running board count held cr) words o read out me q words_after out_after
+        in_stage (running board count held) words out (Running board) (take now.len line_gathered) (running (put_process board me q) (count + 1) nothing) words_after out_after refl
+        (within_records board (running board count held) words out (take now.len line_gathered) read (running (put_process board me q) (count + 1) nothing) words_after out_after few
+        (r ∙ ap (λ (z : Settings). schedule_of (take now.len line_gathered) z.w) (sym same))
+        (read_tells board (running board count held) words o read out me q words_after out_after
         (at ∙ ap (λ (z : Settings). slot_of read z.n) (sym same))
         (subst (λ (z : Settings). Answers (count + 1) z read (process_at board me) words out q words_after out_after) (sym same) k)))
 
     order : InOrder (put_process board me q) words_after
     order =
-        session_order (record_told (run_of (running board count held cr) words) (bytes_of h)) out (running (put_process board me q) (count + 1) 0 false)
-        words_after out_after told (record_order (run_of (running board count held cr) words) (bytes_of h) o)
+        session_order (record_told (run_of (running board count held) words) (take now.len line_gathered)) out (running (put_process board me q) (count + 1) nothing)
+        words_after out_after told (record_order (run_of (running board count held) words) (take now.len line_gathered) o)
 
-    answered_on : feed_of (feeding_to (running (put_process board me q) (count + 1) 0 false) h.line words_after out_after) left
-        ≡ feed_of (feeding_to (running board count held cr) line words out) bytes
+    answered_on : feed_of (feeding_to (running (put_process board me q) (count + 1) nothing) line_gathered words_after out_after) left
+        ≡ feed_of (feeding_to (running board count held) line words out) bytes
     answered_on =
-        fed_on (running board count held cr) line words out bytes h left closed room (running_reads board) g (running (put_process board me q) (count + 1) 0 false) words_after out_after e told
-        (stage_is (run_of (running board count held cr) words) (run_of (running (put_process board me q) (count + 1) 0 false) words_after) (Running board) (Running (put_process board me q)) refl refl)
+        fed_on (running board count held) line words out bytes line_gathered now left closed room (running_reads board) g (running (put_process board me q) (count + 1) nothing) words_after out_after e told
+        (stage_is (run_of (running board count held) words) (run_of (running (put_process board me q) (count + 1) nothing) words_after) (Running board) (Running (put_process board me q)) refl refl)
 
     -- the board is in order and has the same settings, and feeding goes on
     pub goes_on_lem : InOrder (put_process board me q) words_after × (board.settings ≡ s)
-        × (feed_of (feeding_to (running (put_process board me q) (count + 1) 0 false) h.line words_after out_after) left
-        ≡ feed_of (feeding_to (running board count held cr) line words out) bytes)
+        × (feed_of (feeding_to (running (put_process board me q) (count + 1) nothing) line_gathered words_after out_after) left
+        ≡ feed_of (feeding_to (running board count held) line words out) bytes)
     goes_on_lem = (order, same, answered_on)

@@ -24,7 +24,7 @@ start_settles κs args r s e f one other =
 
 -- nothing of a session is lost where it is fed
 abbrev session_in : Feeding → Session
-session_in f = record { stage = f.run.stage; count = f.run.count; held = f.held.held; cr = f.held.cr }
+session_in f = record { stage = f.run.stage; count = f.run.count; held = record { len = f.held.held; cr = f.held.cr } }
 
 -- as many bytes are left only from one place
 same_place : (chunk : List ℕ) (next other : ℕ) → next ≤ length chunk → other ≤ length chunk → drop next chunk ≡ drop other chunk → next ≡ other

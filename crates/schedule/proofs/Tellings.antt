@@ -33,6 +33,7 @@ use Rattle.writing.specs.Put.{Puts}
 use Rattle.writing.specs.declared.writer.Writer.{Writer}
 use Rattle.schedule.specs.Telling.{Tells, EndsWithRow}
 use Rattle.schedule.specs.Feeding.{run_of, session_of, feeding, feeding_to, telling}
+use Rattle.schedule.specs.Gathering.{nothing}
 use Rattle.answers.specs.Moves.{slot_of, move_of, row_by}
 use Rattle.answers.specs.Order.{InOrder, OrderIn}
 use Rattle.answers.specs.Run.{Run, Told, ended, by_set_up, by_settings, set_up_told, nobodys_row, by_entry, most_records, too_many_told, schedule_told, told_in, record_told}
@@ -124,15 +125,15 @@ pub read_tells : (board : Board) (session : Session) (words : List ℕ) (o : InO
     (me : ℕ) (q : Process) (words_after : List ℕ) (out_after : Writer) → me ≡ slot_of entry board.settings.n
     → Answers (session.count + 1) board.settings entry (process_at board me) words out q words_after out_after
     → Tells (by_entry board (run_of session words) entry) out
-    (record { stage = Running (put_process board me q); count = session.count + 1; held = 0; cr = false }) words_after out_after
+    (record { stage = Running (put_process board me q); count = session.count + 1; held = nothing }) words_after out_after
 read_tells board session words o entry out me q words_after out_after e k =
-    subst (λ (t : Told). Tells t out (record { stage = Running (put_process board me q); count = session.count + 1; held = 0; cr = false }) words_after out_after)
+    subst (λ (t : Told). Tells t out (record { stage = Running (put_process board me q); count = session.count + 1; held = nothing }) words_after out_after)
     (ap (λ (i : ℕ). record {
       printed = row_of (row_by (session.count + 1) board.settings entry (moved i).0);
       run = record { stage = Running (put_process board i (moved i).0.after); words = (moved i).1; count = session.count + 1 };
     }) e ∙ sym (entry_told board (run_of session words) o entry))
     (record {
-      session = ap (λ (p : Process). record { stage = Running (put_process board me p); count = session.count + 1; held = 0; cr = false }) k.process;
+      session = ap (λ (p : Process). record { stage = Running (put_process board me p); count = session.count + 1; held = nothing }) k.process;
       memory = k.memory;
       printed = k.row;
     })

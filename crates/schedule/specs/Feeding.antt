@@ -3,7 +3,7 @@ use Rattle.std.specs.Prelude.{ℕ, ◌+◌, ◌-◌, Bool, true, false, cond, Li
 use Rattle.std.proofs.lemmas.List.Edits.{sets}
 use Rattle.writing.specs.declared.writer.Writer.{Writer}
 use Rattle.printout.specs.Writing.{longest_row}
-use Rattle.schedule.specs.Gathering.{Held, bytes_of, nothing_held, put, closes}
+use Rattle.schedule.specs.Gathering.{Held, held_in, nothing, bytes_of, nothing_held, put, closes}
 use Rattle.answers.specs.Run.{Run, Told, record_told}
 use Rattle.schedule.specs.declared.Session.{Session}
 use Rattle.answers.specs.declared.Stage.{Stage}
@@ -21,14 +21,14 @@ run_of session words = record { stage = session.stage; words = words; count = se
 
 -- a run with nothing held of its next record
 abbrev pub session_of : Run → Session
-session_of run = record { stage = run.stage; count = run.count; held = 0; cr = false }
+session_of run = record { stage = run.stage; count = run.count; held = nothing }
 
 -- a session with the line, the words and the output that are lent to it
 abbrev pub feeding : Session → List ℕ → List ℕ → List ℕ → ℕ → Feeding
 feeding session line words out len =
     record {
       run = run_of session words;
-      held = record { line = line; held = session.held; cr = session.cr };
+      held = held_in line session.held;
       out = out;
       len = len;
     }

@@ -2,6 +2,7 @@
 -- are kept: it is refused 10, whatever else it holds.
 use Rattle.std.specs.Prelude.{ℕ, ◌+◌, Bool, true, false, cond, ◌&&◌, List, [], ◌∷◌, eqb, ltb, set, take}
 use Rattle.fields.specs.Bytes.{carriage_return, line_feed}
+use Rattle.schedule.specs.declared.gather.Kept.{Kept}
 
 abbrev pub line_length : ℕ
 line_length = 513
@@ -12,11 +13,18 @@ pub record Held : Type 0 where
   pub held : ℕ
   pub cr : Bool
 
+-- a line with what is held of a record in it; nothing is held before the record's first byte
+abbrev pub held_in : List ℕ → Kept → Held
+held_in line held = record { line = line; held = held.len; cr = held.cr }
+
+abbrev pub nothing : Kept
+nothing = record { len = 0; cr = false }
+
 abbrev pub bytes_of : Held → List ℕ
 bytes_of h = take h.held h.line
 
 abbrev pub nothing_held : List ℕ → Held
-nothing_held line = record { line = line; held = 0; cr = false }
+nothing_held line = held_in line nothing
 
 unfoldable pub put : Held → ℕ → Held
 put h byte =

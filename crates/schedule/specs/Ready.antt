@@ -7,5 +7,5 @@ use Rattle.answers.specs.Order.{OrderIn}
 -- a session with the line and the words that are lent to it
 pub record Ready (session : Session) (line words : List ℕ) : Type 0 where
   pub order : OrderIn session.stage words
-  pub held : session.held ≤ line_length
+  pub held : session.held.len ≤ line_length
   pub long : length line ≡ line_length

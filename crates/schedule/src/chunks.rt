@@ -6,10 +6,10 @@ ghost use Rattle.schedule.specs.Ready.{Ready};
 ghost use Rattle.answers.specs.declared.Stage.TheVariants.{Waiting, Running};
 
 use crate::ends::end_with_too_many;
-use crate::gather::gather;
+use crate::gather::{Kept, NOTHING, gather};
 use crate::setup::take_set_up;
-use crate::{Fed, MOST_RECORDS, Session};
-use answers::{Stage, answer, slot};
+use crate::{Fed, MOST_RECORDS, Session, running};
+use answers::{answer, slot};
 use printout::LONGEST_ROW;
 use record::read_schedule;
 use rules::Board;
@@ -22,24 +22,12 @@ pub(crate) fn is_full(out: &Writer) -> bool
     out.room() < LONGEST_ROW
 }
 
-// A running session with its parts; the record that is gathered.
-fn running(board: Board, count: u64, held: usize, cr: bool) -> Session
-    ensures { result ≡ record { stage = Running board; count = count; held = held; cr = cr } }
-{
-    Session {
-        stage: Stage::Running(board),
-        count,
-        held,
-        cr,
-    }
-}
-
-// The same after some bytes.
-fn fed_running(board: Board, count: u64, held: usize, cr: bool, next: usize) -> Fed
-    ensures { result ≡ record { session = record { stage = Running board; count = count; held = held; cr = cr }; next = next } }
+// A running session after some bytes.
+fn fed_running(board: Board, count: u64, held: Kept, next: usize) -> Fed
+    ensures { result ≡ record { session = record { stage = Running board; count = count; held = held }; next = next } }
 {
     Fed {
-        session: running(board, count, held, cr),
+        session: running(board, count, held),
         next,
     }
 }
@@ -58,14 +46,12 @@ pub(crate) fn feed_set_up(
     ensures { Feeds session chunk.now at line.old mem.old out.old
         result line.new mem.new out.new }
 {
-    let found = gather(session.held, session.cr, chunk, at, line);
-    let held = found.held;
+    let found = gather(session.held, chunk, at, line);
     let session = if found.closed {
-        take_set_up(session, &line[..held], mem, out)
+        take_set_up(session, &line[..found.held.len], mem, out)
     } else {
         Session {
-            held,
-            cr: found.cr,
+            held: found.held,
             ..session
         }
     };
@@ -94,28 +80,25 @@ pub(crate) fn feed_running(
     let s = board.settings;
     let mut count = session.count;
     let mut held = session.held;
-    let mut cr = session.cr;
     let mut next = at;
     while next < chunk.len() {
         if is_full(out) {
-            return fed_running(board, count, held, cr, next);
+            return fed_running(board, count, held, next);
         }
-        let found = gather(held, cr, chunk, next, line);
+        let found = gather(held, chunk, next, line);
         held = found.held;
-        cr = found.cr;
         next = found.next;
         if found.closed {
             if count >= MOST_RECORDS {
-                let session = end_with_too_many(running(board, count, held, cr), out);
+                let session = end_with_too_many(running(board, count, held), out);
                 return Fed { session, next };
             }
-            let read = read_schedule(&line[..held], s.w);
+            let read = read_schedule(&line[..held.len], s.w);
             let me = slot(read, s.n);
             board.processes[me] = answer(count + 1, s, read, board.processes[me], mem, out);
             count += 1;
-            held = 0;
-            cr = false;
+            held = NOTHING;
         }
     }
-    fed_running(board, count, held, cr, next)
+    fed_running(board, count, held, next)
 }

@@ -5,6 +5,7 @@ ghost use Rattle.word.specs.declared.Refusal.TheVariants.{TooManyRecords};
 ghost use Rattle.answers.specs.Run.{most_records, nobodys_row};
 ghost use Rattle.schedule.specs.Telling.{EndsWithRow};
 
+use crate::gather::NOTHING;
 use crate::{MOST_RECORDS, Session};
 use answers::{Stage, nobodys_row};
 use printout::{Row, put_row};
@@ -18,8 +19,7 @@ pub(crate) fn end_with(row: Row, session: Session, out: &mut Writer) -> Session
     put_row(row, out);
     Session {
         stage: Stage::Over,
-        held: 0,
-        cr: false,
+        held: NOTHING,
         ..session
     }
 }

@@ -9,6 +9,7 @@ ghost use Rattle.schedule.specs.Feeding.{feeding_to, session_of, is_over, finish
 ghost use Rattle.schedule.specs.Feeds.{Feeds};
 ghost use Rattle.schedule.specs.Ready.{Ready};
 ghost use Rattle.answers.specs.Run.{beginning_run};
+ghost use Rattle.answers.specs.declared.Stage.TheVariants.{Running};
 
 mod chunks; // chunks.rt: bytes of a chunk, as far as there is room for rows
 mod ends; // ends.rt: the last row of a run
@@ -17,7 +18,9 @@ mod setup; // setup.rt: the set-up record
 mod take; // take.rt: one whole record
 
 use answers::Stage;
+use gather::{Kept, NOTHING};
 use printout::put_heading;
+use rules::Board;
 use writing::Writer;
 
 // Schedule records after this many are refused.
@@ -26,14 +29,12 @@ pub const MOST_RECORDS: u64 = 1000000;
 // A record over 512 bytes is refused whatever it holds; the first 513 show that, and no more are kept.
 pub const LINE_LENGTH: usize = 513;
 
-// A run between two chunks. `held` bytes of the next record stand in a lent line; `cr`: the last of them was a CR. Only this
-// crate makes one: so a caller has no other than `start`, `feed` and `finish` gave it.
+// A run between two chunks. Only this crate makes one: so a caller has no other than `start`, `feed` and `finish` gave it.
 #[derive(Clone, Copy)]
 pub struct Session {
     stage: Stage,
     count: u64,
-    held: usize,
-    cr: bool,
+    held: Kept,
 }
 
 // A run after some bytes, and the place of the next byte.
@@ -53,8 +54,18 @@ pub fn start(out: &mut Writer) -> Session
     Session {
         stage: Stage::Waiting,
         count: 0,
-        held: 0,
-        cr: false,
+        held: NOTHING,
+    }
+}
+
+// A running session with its parts.
+fn running(board: Board, count: u64, held: Kept) -> Session
+    ensures { result ≡ record { stage = Running board; count = count; held = held } }
+{
+    Session {
+        stage: Stage::Running(board),
+        count,
+        held,
     }
 }
 
@@ -99,7 +110,7 @@ pub fn finish(session: Session, line: &[u8], mem: &mut [u64], out: &mut Writer) 
     ensures fed { feeding_to result line.now mem.new out.new ≡ finish_of (feeding_to session line.now mem.old out.old) }
     ensures same { SameLent out.old out.new }
 {
-    let held = session.held;
+    let held = session.held.len;
     if held == 0 {
         return session;
     }

@@ -5,9 +5,10 @@ ghost use Rattle.schedule.specs.Telling.{Tells};
 ghost use Rattle.schedule.specs.Feeding.{run_of};
 ghost use Rattle.answers.specs.Run.{by_settings, set_up_told};
 
-use crate::Session;
 use crate::ends::end_with;
-use answers::{Stage, set_up_row};
+use crate::gather::NOTHING;
+use crate::{Session, running};
+use answers::set_up_row;
 use board::set_up;
 use record::read_settings;
 use rules::Settings;
@@ -18,12 +19,7 @@ fn set_up_board(session: Session, s: Settings, mem: &mut [u64], out: &mut Writer
     ensures { Tells (by_settings (run_of session mem.old) (Ok s)) out.old result mem.new out.new }
 {
     match set_up(s, mem) {
-        Ok(board) => Session {
-            stage: Stage::Running(board),
-            count: 0,
-            held: 0,
-            cr: false,
-        },
+        Ok(board) => running(board, 0, NOTHING),
         Err(why) => end_with(set_up_row(why), session, out),
     }
 }

@@ -7,8 +7,9 @@ ghost use Rattle.answers.specs.Order.{InOrder, OrderIn};
 ghost use Rattle.answers.specs.Run.{most_records, by_entry, schedule_told, record_told};
 
 use crate::ends::end_with_too_many;
+use crate::gather::NOTHING;
 use crate::setup::take_set_up;
-use crate::{MOST_RECORDS, Session};
+use crate::{MOST_RECORDS, Session, running};
 use answers::{Stage, answer, slot};
 use record::{Entry, read_schedule};
 use rules::Board;
@@ -30,12 +31,7 @@ fn take_read(
     let me = slot(read, s.n);
     let count = session.count + 1;
     board.processes[me] = answer(count, s, read, board.processes[me], mem, out);
-    Session {
-        stage: Stage::Running(board),
-        count,
-        held: 0,
-        cr: false,
-    }
+    running(board, count, NOTHING)
 }
 
 #[tactic(auto, unfolding(answers::specs::Run::schedule_told))]
@@ -70,8 +66,7 @@ pub(crate) fn take_record(
         Stage::Waiting => take_set_up(session, bytes, mem, out),
         Stage::Running(board) => take_schedule(board, session, bytes, mem, out),
         Stage::Over => Session {
-            held: 0,
-            cr: false,
+            held: NOTHING,
             ..session
         },
     }

@@ -17,10 +17,10 @@ returns-then-is_full c =
     let loop = c.loop-next in
     let a = c.args in
     let whole = loop.invariant.8 ∙ as_running a.board a.session a.line.now a.mem.now a.out.now (drop a.at a.chunk.now) c.requires.0 in
-    let f = feeding_to (running loop.board loop.count loop.held loop.cr) loop.line loop.mem loop.out in
-    feeds_as _ (fed_running loop.board loop.count loop.held loop.cr loop.next) c.fed_running.ensures (record {
+    let f = feeding_to (running loop.board loop.count loop.held) loop.line loop.mem loop.out in
+    feeds_as _ (fed_running loop.board loop.count loop.held loop.next) c.fed_running.ensures (record {
       fed = sym (feed_full f (drop loop.next a.chunk.now) (is_full_lem f _ _ c.is_full.ensures c.if-is_full.true)) ∙ whole;
-      ready = running_ready loop.board loop.count loop.held loop.cr loop.line loop.mem loop.invariant.1 loop.invariant.3 loop.invariant.4;
+      ready = running_ready loop.board loop.count loop.held loop.line loop.mem loop.invariant.1 loop.invariant.3 loop.invariant.4;
       within = loop.invariant.0;
       same = loop.invariant.7;
     })
@@ -33,7 +33,7 @@ returns-then-count-ge-MOST_RECORDS c =
     let gathered = c.gather-found.ensures in
     let ended = c.end_with_too_many-session.ensures in
     record {
-      fed = too_many loop.board loop.count loop.held loop.cr loop.line loop.mem loop.out (drop loop.next a.chunk.now) _ _ _
+      fed = too_many loop.board loop.count loop.held loop.line loop.mem loop.out (drop loop.next a.chunk.now) _ _ _ _
           (room _ _ c.is_full.ensures c.if-is_full.false) gathered.gathered _ _ _ c.if-found.true c.if-count-ge-MOST_RECORDS.true
           c.running.ensures ended ∙ whole;
       ready = ended_ready _ _ _ _ _ _ _ ended gathered.long;
@@ -62,7 +62,7 @@ loop-next-preserved-then-found c =
     let a = c.args in
     let gathered = c.gather-found.ensures in
     let on =
-    goes_on_lem loop.board loop.count loop.held loop.cr loop.line loop.mem loop.out (drop loop.next a.chunk.now) _ _ _
+    goes_on_lem loop.board loop.count loop.held loop.line loop.mem loop.out (drop loop.next a.chunk.now) _ _ _ _
     (room _ _ c.is_full.ensures c.if-is_full.false) gathered.gathered loop.invariant.1 _ loop.invariant.2 _ _ _ _ _ c.if-found.true
     c.if-count-ge-MOST_RECORDS.false c.read_schedule-read.ensures c.slot-me.ensures.0 c.answer.ensures in (
       gathered.within,
@@ -95,7 +95,7 @@ loop-next-preserved c =
       omega (arith, gathered.long),
       loop.invariant.6,
       loop.invariant.7,
-      open_on loop.board loop.count loop.held loop.cr loop.line loop.mem loop.out (drop loop.next a.chunk.now) _ _ _
+      open_on loop.board loop.count loop.held loop.line loop.mem loop.out (drop loop.next a.chunk.now) _ _ _ _
           (room _ _ c.is_full.ensures c.if-is_full.false) gathered.gathered c.if-found.false ∙ loop.invariant.8,
     )
 
@@ -104,10 +104,10 @@ returns c =
     let loop = c.loop-next in
     let a = c.args in
     let whole = loop.invariant.8 ∙ as_running a.board a.session a.line.now a.mem.now a.out.now (drop a.at a.chunk.now) c.requires.0 in
-    let f = feeding_to (running loop.board loop.count loop.held loop.cr) loop.line loop.mem loop.out in
-    feeds_as _ (fed_running loop.board loop.count loop.held loop.cr loop.next) c.fed_running-2.ensures (record {
+    let f = feeding_to (running loop.board loop.count loop.held) loop.line loop.mem loop.out in
+    feeds_as _ (fed_running loop.board loop.count loop.held loop.next) c.fed_running-2.ensures (record {
       fed = used_up f a.chunk.now loop.next c.loop-next-test.false ∙ whole;
-      ready = running_ready loop.board loop.count loop.held loop.cr loop.line loop.mem loop.invariant.1 loop.invariant.3 loop.invariant.4;
+      ready = running_ready loop.board loop.count loop.held loop.line loop.mem loop.invariant.1 loop.invariant.3 loop.invariant.4;
       within = loop.invariant.0;
       same = loop.invariant.7;
     })

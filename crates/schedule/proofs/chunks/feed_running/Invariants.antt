@@ -15,14 +15,14 @@ invariant-loop-next l =
     (l.next ≤ length l.chunk)
     × InOrder l.board l.mem
     × (l.board.settings ≡ l.s)
-    × (l.held ≤ line_length)
+    × (l.held.len ≤ line_length)
     × (length l.line ≡ line_length)
     × (length l.line ≡ length l.initial.line)
     × (length l.mem ≡ length l.initial.mem)
     × SameLent l.initial.out l.out
-    × (feed_of (feeding_to (running l.board l.count l.held l.cr) l.line l.mem l.out) (drop l.next l.chunk)
+    × (feed_of (feeding_to (running l.board l.count l.held) l.line l.mem l.out) (drop l.next l.chunk)
     ≡ feed_of
-    (feeding_to (running l.initial.board l.initial.count l.initial.held l.initial.cr) l.initial.line l.initial.mem l.initial.out)
+    (feeding_to (running l.initial.board l.initial.count l.initial.held) l.initial.line l.initial.mem l.initial.out)
     (drop l.at l.chunk))
 
 abbrev pub decreases-loop-next : goal.decreases-loop-next

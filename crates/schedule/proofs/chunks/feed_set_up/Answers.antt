@@ -15,12 +15,12 @@ returns-then-found c =
     let tell = c.take_set_up-session.ensures in
     let told = in_stage a.session a.mem.now a.out.now Waiting _ _ _ _ c.requires.0 tell in
     record {
-      fed = fed_left a.session a.line.now a.mem.now a.out.now (drop a.at a.chunk.now) _ _ _ c.requires.3
+      fed = fed_left a.session a.line.now a.mem.now a.out.now (drop a.at a.chunk.now) _ _ _ _ c.requires.3
           (reads_waiting a.session.stage c.requires.0) c.gather-found.ensures.gathered _ _ _ c.if-found.true told
           (set_up_leaves a.session _ a.mem.now _ _ a.out.now _ c.requires.0 tell);
       ready = record {
         order = session_order _ a.out.now _ _ _ told (record_order (run_of a.session a.mem.now) _ c.requires.1.order);
-        held = omega (arith, ap (λ (s : Session). s.held) tell.session);
+        held = omega (arith, ap (λ (s : Session). s.held.len) tell.session);
         long = c.gather-found.ensures.long;
       };
       within = c.gather-found.ensures.within;
@@ -31,7 +31,7 @@ pub returns-else-found : goal.returns-else-found
 returns-else-found c =
     let a = c.args in
     record {
-      fed = fed_open a.session a.line.now a.mem.now a.out.now (drop a.at a.chunk.now) _ _ _ c.requires.3
+      fed = fed_open a.session a.line.now a.mem.now a.out.now (drop a.at a.chunk.now) _ _ _ _ c.requires.3
           (reads_waiting a.session.stage c.requires.0) c.gather-found.ensures.gathered c.if-found.false;
       ready = record { order = c.requires.1.order; held = c.gather-found.ensures.kept; long = c.gather-found.ensures.long };
       within = c.gather-found.ensures.within;

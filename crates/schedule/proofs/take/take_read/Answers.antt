@@ -11,5 +11,6 @@ answer-requires c =
 pub returns : goal.returns
 returns c =
     let a = c.args in
-    read_tells a.board a.session a.mem.now c.requires.0 a.read a.out.now _ _ _ _
-    c.slot-me.ensures.0 c.answer.ensures
+    rw c.running.ensures
+    (read_tells a.board a.session a.mem.now c.requires.0 a.read a.out.now _ _ _ _
+    c.slot-me.ensures.0 c.answer.ensures)
