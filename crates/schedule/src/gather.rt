@@ -5,7 +5,8 @@ ghost use Rattle.schedule.specs.Gathering.{line_length, held_in, put};
 
 use crate::LINE_LENGTH;
 
-// What is held of the next record: how many bytes of it stand in the lent line, and whether its last byte was a CR.
+// What is held of the next record: how many bytes of it stand in the lent line, and whether its last byte was a CR. The line
+// stays apart, since it is lent and a session goes by value.
 #[derive(Clone, Copy)]
 pub struct Kept {
     pub(crate) len: usize,
@@ -15,8 +16,8 @@ pub struct Kept {
 // Before a record's first byte.
 pub(crate) const NOTHING: Kept = Kept { len: 0, cr: false };
 
-// `closed` stands beside the others since all of them mean something either way: where the chunk ends first, the record goes on
-// from what is held and from its last CR.
+// `closed` stands beside the others since they mean something either way: where the chunk ends first, the record goes on from
+// what is held.
 #[derive(Clone, Copy)]
 pub struct Found {
     pub held: Kept,

@@ -16,6 +16,7 @@ use rules::Board;
 use word::Refusal;
 use writing::Writer;
 
+// The loop of `feed_running` has the same two lines: a function for them, on a `&mut Board`, has a clause longer than they are.
 #[tactic(auto, using(answers::proofs::OneProcess::all_sized))]
 fn take_read(
     mut board: Board,
