@@ -23,7 +23,7 @@ use word::Refusal;
 use writing::Writer;
 
 // A run waits for its set-up, runs on its board, or is over.
-#[derive(Clone, Copy)]
+#[derive(Clone, Copy, Debug, PartialEq, Eq)]
 pub enum Stage {
     Waiting,
     Running(Board),

@@ -1,5 +1,5 @@
-// A schedule record answered on the one process that it moves, where the board is in good form. What it asks stands in each
-// clause, as in `answer`, whose callers a narrower type would ask more of.
+// A schedule record answered on the one process that it moves, where the board is in good form. Three functions ask for that
+// in their clauses, each to call the next: a type for it would be made in `answer` to be taken apart in the last.
 ghost use Rattle.std.specs.Prelude.{◌≡◌, true, List, ℕ, ◌≤◌, ◌<◌, length};
 ghost use Rattle.rules.specs.Bounds.{Sized};
 ghost use Rattle.rules.specs.Figure4.{Step};

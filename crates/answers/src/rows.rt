@@ -36,7 +36,7 @@ pub fn nobodys_row(number: u64, why: Refusal) -> Row
     refused_row(number, Who::Nobody, why)
 }
 
-// A `From` would have the same arms, and a clause of its own to state what they give.
+// A `From` would be no plainer: it has the same arms, and `from_gives` for the clause.
 fn call_act(call: Call) -> Act
     ensures { result ≡ call_act call }
 {

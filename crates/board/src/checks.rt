@@ -25,7 +25,7 @@ pub(crate) fn sizes_check(s: Settings, lent: usize) -> Result<(), Refusal>
     Ok(())
 }
 
-// 3 and 4, of a board whose sizes stand.
+// 3 and 4, of a board whose sizes stand: a clause says so, since a type for that would serve this function alone.
 fn form_check(board: Board, me: usize, mem: &[u64]) -> Result<(), Refusal>
     requires { Sized board.settings × (words_used board.settings ≤ length mem.now) }
     ensures { result ≡ refuse_if (not (in_good_form board mem.now)) NotInGoodForm (refuse_if (nat_le board.settings.n me) NoSuchProcess fine) }

@@ -1,4 +1,5 @@
-// What Figure 6's Copy does with a segment's value once the header was read again, and how Copy ends.
+// What Figure 6's Copy does with a segment's value once the header was read again, and how Copy ends. One
+// function here asks for `Sized`, so a type for it would serve none but that.
 ghost use Rattle.std.specs.Prelude.{◌≡◌, ◌<◌, Ok};
 ghost use Rattle.rules.specs.Bounds.{Sized};
 ghost use Rattle.rules.specs.Figure6.{saving, copy_through, copy_on, copy_cut_short};

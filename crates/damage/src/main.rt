@@ -26,7 +26,7 @@ const FAMILIES: [(Family, usize); 11] = [
     (Family::Calls, 160),
 ];
 
-// The cases of a family, in order.
+// The cases of a family, in order; `f` is the number that their lines begin with.
 fn cases_of(rt: HostRuntime, f: usize, family: Family, count: usize) -> io::Result<()> {
     for k in 0..count {
         run::run(rt, f, k, family.case(k))?;

@@ -28,7 +28,7 @@ pub(crate) fn places(x: usize, header: u64, i: usize, value: u64) -> [Place; 14]
     ]
 }
 
-// A process there, with these sequences open and every number 0.
+// A process there, with these sequences open and every number 0: spelled out, as a caller from outside would.
 pub(crate) fn process_at(place: Place, opened: u16) -> Process {
     Process {
         place,

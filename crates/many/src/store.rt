@@ -1,5 +1,6 @@
 // Figure 6's store, up to its Copy: it reads the header, writes its announce row, and swaps the header.
-// What they ask of settings stands in each clause: a type that is within the sizes would ask more of public functions' callers.
+// What they ask of settings stands in each clause: a type that is within the sizes would ask more of public functions' callers,
+// and `new_header`, alone beside them, needs none.
 ghost use Rattle.std.specs.Prelude.{◌≡◌, ◌≤◌, ◌<◌, length};
 ghost use Rattle.rules.specs.Bounds.{Sized};
 ghost use Rattle.rules.specs.Figure4.{Step};

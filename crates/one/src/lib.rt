@@ -1,5 +1,6 @@
 // The code of Figure 4 of source document 001, one word: a function for each place, which takes the step from there.
-// What they ask of settings stands in each clause: a type that is within the sizes would ask more of public functions' callers.
+// What they ask of settings stands in each clause: a type that is within the sizes would ask more of public functions' callers,
+// and `new_word`, alone beside them, needs none.
 #![tactic(auto)]
 
 ghost use Rattle.std.specs.Prelude.{◌≡◌, ◌≤◌, ◌<◌, length, get_or};
@@ -35,7 +36,7 @@ pub fn validate_reads_word(s: Settings, p: Process, x: usize, mem: &[u64]) -> An
     }
 }
 
-// Line 4: the next tag of the keep-word, and the new value.
+// Line 4: the next tag of the keep-word, and the new value. Figure 6 has the like in line 18: each figure keeps its own line.
 #[tactic(auto, using(word::proofs::Laws::tag_lt, word::proofs::Laws::next_lt))]
 fn new_word(s: Settings, p: Process, x: usize) -> u64
     requires { Sized s × (x < s.t) × (get_or p.values 0 0 < value_limit (bits s)) }

@@ -15,16 +15,16 @@ use word::Refusal;
 use writing::Writer;
 
 // Whose record a row tells of: nobody's after 10, 11 and 12, the set-up, or a process with its act.
-#[derive(Clone, Copy)]
+#[derive(Clone, Copy, Debug, PartialEq, Eq)]
 pub enum Who {
     Nobody,
     SetUp,
     Process(u64, Act),
 }
 
-// Where there is no open count its field is blank. Of the values of a load the first `w` are printed: `w` is the board's, and
-// so stands beside every answer.
-#[derive(Clone, Copy)]
+// Where there is no open count its field is blank. Of the values of a load the first `w` are printed, the board's W; it stands
+// beside the answer, since an answer comes from the board as four values.
+#[derive(Clone, Copy, Debug, PartialEq, Eq)]
 pub struct Row {
     pub number: u64,
     pub who: Who,

@@ -1,4 +1,5 @@
-// A row, field by field. A field is put with the comma before it.
+// A row, field by field. A field is put with the comma before it. The words are put as bytes: what a `Display` writes no clause
+// can name, and `put_row` promises each byte.
 ghost use Rattle.std.specs.Prelude.{◌++◌, ◌+◌, ◌≤◌, length};
 ghost use Rattle.record.specs.Words.{act_word};
 ghost use Rattle.rules.specs.Answers.{answer_word};

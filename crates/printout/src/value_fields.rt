@@ -36,7 +36,7 @@ fn put_value(k: usize, numbers: &[u64], out: &mut Writer)
     put_optional(nth(numbers, k), out);
 }
 
-// The four value fields and the line's end. They are four in every row, as document 01 has them, so no loop counts them.
+// The four value fields and the line's end: four lines are no longer than a loop over them, which needs an invariant.
 fn put_values(numbers: &[u64], out: &mut Writer)
     requires { out.old.len + length (rest (value_fields numbers.now)) ≤ length out.old.bytes.now }
     ensures { Puts out.old (rest (value_fields numbers.now)) out.new }

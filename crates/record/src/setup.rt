@@ -29,7 +29,7 @@ fn settings_from(bytes: &[u8]) -> Option<Settings>
     })
 }
 
-// What the first record says.
+// What the first record says. `read_schedule` has the same two refusals: a function for them would take the reading as a closure.
 #[tactic(auto, unfolding(crate::specs::Setup::settings_of))]
 pub fn read_settings(bytes: &[u8]) -> Result<Settings, Refusal>
     ensures { result ≡ settings_of bytes.now }

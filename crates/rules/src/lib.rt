@@ -63,7 +63,8 @@ pub enum Place {
     ReadsHeader(Copy, u64),
 }
 
-// One keep-word a variable; bit x of `opened` is set while the sequence on variable x is open.
+// One keep-word a variable; bit x of `opened` is set while the sequence on variable x is open. The mask stands beside the
+// keep-words since document 01 names it.
 #[derive(Clone, Copy, Debug, PartialEq, Eq)]
 pub struct Process {
     pub place: Place,

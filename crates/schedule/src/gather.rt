@@ -7,7 +7,7 @@ use crate::LINE_LENGTH;
 
 // What is held of the next record: how many bytes of it stand in the lent line, and whether its last byte was a CR. The line
 // stays apart, since it is lent and a session goes by value.
-#[derive(Clone, Copy)]
+#[derive(Clone, Copy, Debug, PartialEq, Eq)]
 pub struct Kept {
     pub(crate) len: usize,
     pub(crate) cr: bool,

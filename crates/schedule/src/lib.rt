@@ -29,8 +29,9 @@ pub const MOST_RECORDS: u64 = 1000000;
 // A record over 512 bytes is refused whatever it holds; the first 513 show that, and no more are kept.
 pub const LINE_LENGTH: usize = 513;
 
-// A run between two chunks. Only this crate makes one: so a caller has no other than `start`, `feed` and `finish` gave it.
-#[derive(Clone, Copy)]
+// A run between two chunks. What is lent to it (line, words, output) stays apart, each by its own `&mut`: a caller has it back
+// after each call, and a session goes by value. Only this crate makes one: so a caller has no other than `start`, `feed` and `finish` gave it.
+#[derive(Clone, Copy, Debug, PartialEq, Eq)]
 pub struct Session {
     stage: Stage,
     count: u64,
@@ -38,7 +39,7 @@ pub struct Session {
 }
 
 // A run after some bytes, and the place of the next byte.
-#[derive(Clone, Copy)]
+#[derive(Clone, Copy, Debug, PartialEq, Eq)]
 pub struct Fed {
     pub session: Session,
     pub next: usize,

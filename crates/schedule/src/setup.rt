@@ -14,6 +14,8 @@ use record::read_settings;
 use rules::Settings;
 use writing::Writer;
 
+// What a set-up makes of settings in form. The refused row stands here and below, where the settings are not: one match for
+// both would hand the words on through a closure.
 fn set_up_board(session: Session, s: Settings, mem: &mut [u64], out: &mut Writer) -> Session
     requires { longest_row ≤ length out.old.bytes.now - out.old.len }
     ensures { Tells (by_settings (run_of session mem.old) (Ok s)) out.old result mem.new out.new }

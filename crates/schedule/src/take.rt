@@ -16,7 +16,8 @@ use rules::Board;
 use word::Refusal;
 use writing::Writer;
 
-// The loop of `feed_running` has the same two lines: a function for them, on a `&mut Board`, has a clause longer than they are.
+// The loop of `feed_running` does the same with the board where it is; handed over and back at each record, the program took
+// some three times as long.
 #[tactic(auto, using(answers::proofs::OneProcess::all_sized))]
 fn take_read(
     mut board: Board,

@@ -25,6 +25,10 @@ use writing::Writer;
 // After so many bytes another read could give more than can be counted. No input is that long.
 const MOST_READ: usize = usize::MAX - 65535;
 
+// What is lent goes from function to function as four slices: each call lends some of them on while it reads another (`turn` the
+// buffer), and each clause says what is left in which. The output's bytes and how many of them wait stay apart, since `Output`
+// keeps that count private, so that only `flush` makes it 0.
+
 // A run, and what waits of its printout.
 #[derive(Clone, Copy)]
 struct State {
