@@ -1,4 +1,5 @@
-// One whole record answered: the set-up, a schedule record, or, when the run is over, nothing.
+// One whole record answered: the set-up, a schedule record, or, when the run is over, nothing. That there is room
+// for a row each clause asks anew, since a writer has it only until the row is put.
 ghost use Rattle.std.specs.Prelude.{◌-◌, ◌≤◌, ◌<◌, length};
 ghost use Rattle.printout.specs.Writing.{longest_row};
 ghost use Rattle.schedule.specs.Telling.{Tells};

@@ -27,7 +27,8 @@ const MOST_READ: usize = usize::MAX - 65535;
 
 // What is lent goes from function to function as four slices: each call lends some of them on while it reads another (`turn` the
 // buffer), and each clause says what is left in which. The output's bytes and how many of them wait stay apart, since `Output`
-// keeps that count private, so that only `flush` makes it 0.
+// keeps that count private, so that only `flush` makes it 0. `Stands` is a clause, since it is asked of a state together with what
+// is lent to it.
 
 // A run, and what waits of its printout.
 #[derive(Clone, Copy)]
