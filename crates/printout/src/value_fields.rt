@@ -17,7 +17,7 @@ pub(crate) fn put_optional(number: Option<u64>, out: &mut Writer)
 {
     match number {
         None => out.put(b","),
-        Some(count) => out.put_number(count),
+        Some(number) => out.put_number(number),
     }
 }
 
