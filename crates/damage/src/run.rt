@@ -45,13 +45,14 @@ fn serve(rt: HostRuntime, board: Board, case: Case, mem: &mut [u64]) -> io::Resu
 
 // The case's line, over the words lent.
 fn on_words(rt: HostRuntime, f: usize, k: usize, case: Case, mem: &mut [u64]) -> io::Result<()> {
-    print!(rt; "{f} {k}")?;
+    print!(rt; "{f}")?;
+    print(rt, k as u64)?;
     let made = board::set_up(case.settings, mem);
     print(rt, number_of(made))?;
     if let Some(word) = mem.get_mut(case.address) {
         *word = case.word;
     }
-    let mut board = made.unwrap_or(board::blank_board());
+    let mut board = made.unwrap_or_else(|_| board::blank_board());
     board.settings = case.settings;
     if let Some(process) = board.processes.get_mut(case.at) {
         *process = case.process;

@@ -25,6 +25,14 @@ short (suc room) n = by_test (ltb n 10) (short room (n / 10))
     by_test true h = omega arith
     by_test false h = omega (arith, longer (decimal_in room (n / 10)) (n % 10))
 
+pub some_digit : (room n : ℕ) → 0 < length (decimal_in (suc room) n)
+unfolding decimal_in
+some_digit room n = by_test (ltb n 10)
+  where
+    by_test : (b : Bool) → 0 < length (cond b (followed_by [] n) (followed_by (decimal_in room (n / 10)) (n % 10)))
+    by_test true = omega arith
+    by_test false = omega (arith, longer (decimal_in room (n / 10)) (n % 10))
+
 -- a number of two digits or more
 pub decimal_long : (room n : ℕ) → 0 < room → 9 < n → decimal_in room n ≡ followed_by (decimal_in (room - 1) (n / 10)) (n % 10)
 unfolding decimal_in

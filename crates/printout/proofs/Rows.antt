@@ -1,11 +1,12 @@
 -- Laws of a row's fields: the value fields, and how long its parts are. Assumes nothing.
 use mathlib.Core.Path.{◌≡◌, refl, ap}
 use mathlib.Core.List.{List, [], ◌∷◌, ◌++◌, append_assoc}
-use Prim.Native.Nat.{ℕ, zero, suc, ◌+◌}
+use Prim.Native.Nat.{ℕ, zero, suc, ◌+◌, ◌≤◌}
 use native.Mathlib.Omega.{arith}
 use lib.ListN.{length, length-append}
 use Rattle.std.specs.Prelude.{slice_get}
 use Rattle.fields.specs.Decimal.{decimal}
+use Rattle.fields.proofs.Decimals.{some_digit, decimal_short}
 use Rattle.rules.specs.Text.{ascii}
 use Rattle.writing.specs.Line.{after_comma, rest}
 use Rattle.printout.specs.Row.{process_field, act_field, open_field, value_field, value_fields, row_of}
@@ -29,6 +30,12 @@ length_values numbers = four (value_field 0 numbers) (value_field 1 numbers) (va
   where
     four : (a b c d : List ℕ) → length (rest (a ∷ b ∷ c ∷ d ∷ [])) ≡ length a + length b + length c + length d + 6
     four a b c d = omega (arith, length_after a (b ∷ c ∷ d ∷ []), length_after b (c ∷ d ∷ []), length_after c (d ∷ []), length_after d [])
+
+-- no number takes less room than 0
+pub zero_shortest : (n : ℕ) → length (rest (value_fields (0 ∷ []))) ≤ length (rest (value_fields (n ∷ [])))
+zero_shortest n =
+    let one_digit : length (decimal 0) ≡ 1 = ap (λ (l : List ℕ). length l) (decimal_short 20 0 (omega arith) (omega arith)) in
+    omega (arith, length_values (0 ∷ []), length_values (n ∷ []), one_digit, some_digit 19 n)
 
 -- the parts of a row that are put one after the other
 abbrev pub who_part : Row → List ℕ

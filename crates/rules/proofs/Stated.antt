@@ -1,6 +1,9 @@
 -- What specs/Statements.antt states, proved: each from the lemma that shows it. Assumes nothing.
 use mathlib.Core.Path.{ap}
-use Rattle.rules.specs.Statements.{RefusalsLeaveAll, RefusedExactly, BlankRefused, GoodFormKept, OnesCounted}
+use mathlib.Core.List.{[], ◌∷◌}
+use Prim.Native.Nat.{ℕ}
+use Rattle.word.proofs.Packing.{number_told}
+use Rattle.rules.specs.Statements.{RefusalsLeaveAll, RefusedExactly, BlankRefused, NumbersTold, GoodFormKept, OnesCounted}
 use Rattle.rules.specs.Types.{Answered, Board}
 use Rattle.rules.proofs.GoodForm.Keeps.{begin_keeps, step_keeps}
 use Rattle.rules.proofs.GoodForm.Runs.{always_in_form}
@@ -41,6 +44,9 @@ blank_refused =
       step = refusing.blank_step;
       count = refusing.blank_count;
     }
+
+pub numbers_told : NumbersTold
+numbers_told = record { set_up = number_told.any Board (λ board. []); count = number_told.any ℕ (λ count. count ∷ []) }
 
 pub good_form_kept : GoodFormKept
 good_form_kept = record { begin_keeps = begin_keeps; step_keeps = step_keeps; always_in_form = always_in_form }

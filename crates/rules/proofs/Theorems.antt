@@ -12,6 +12,8 @@ pub use Rattle.rules.proofs.Cases.FormCases.{ClauseLimits, every_clause}
 pub use Rattle.rules.proofs.Sizes.Addresses.{used_most, header_in, segment_in, announce_in, header_header, segment_segment, header_segment, header_announce, segment_announce, announce_announce}
 -- packing and unpacking tell document 01's numbers and values, and undo each other
 pub use Rattle.word.proofs.Packing.{told, number_told, undone, packed_unpacks, unpacked_packs}
+-- a set-up and an open count tell the number that stands alone
+pub use Rattle.rules.proofs.Stated.{numbers_told}
 -- packing takes b, tag and value up to their limits, and refuses what is past them
 pub use Rattle.word.proofs.Cases.{Limits, limits}
 -- the tag after the greatest is 0, and the tag before 0 is the greatest; next and previous tag undo each other

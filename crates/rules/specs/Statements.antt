@@ -1,7 +1,9 @@
 -- What is proved of the rules for demands 1 and 2, beside the contracts: that a refusal leaves everything as found, that good form
 -- is kept, and that the ones of a mask are the open count. OneAccess, Schedules and Demand3 have files of their own.
-use Rattle.std.specs.Prelude.{◌≡◌, List, ℕ, ◌^◌, ◌≤◌, ◌<◌, length, get_or}
+use Rattle.std.specs.Prelude.{◌≡◌, List, ℕ, ◌^◌, ◌≤◌, ◌<◌, length, get_or, Result}
 use Rattle.std.specs.Int.Count.{ones}
+use Rattle.word.specs.Refusals.{told_number}
+use Rattle.rules.specs.Answers.{start_told, open_told}
 use Rattle.rules.specs.Entry.{blank_board, set_up_rule, begin_rule, step_rule, open_count_rule}
 use Rattle.rules.specs.InForm.{Shaped, InForm}
 use Rattle.rules.specs.Processes.{open_count, refusing}
@@ -39,6 +41,11 @@ pub record BlankRefused : Type 0 where
       → begin_rule blank_board me call values words ≡ refusing blank_board SettingOutsideSizes
   pub step : (me : ℕ) (words : List ℕ) → step_rule blank_board me words ≡ (refusing blank_board SettingOutsideSizes, words)
   pub count : (me : ℕ) (words : List ℕ) → open_count_rule blank_board me words ≡ Err SettingOutsideSizes
+
+-- the number alone of what a set-up answers, and an open count, is the one that it tells
+pub record NumbersTold : Type 0 where
+  pub set_up : (answer : Result Board Refusal) → told_number answer ≡ (start_told answer).0
+  pub count : (answer : Result ℕ Refusal) → told_number answer ≡ (open_told answer).0
 
 -- a state that came from a set-up with these settings and words lent
 pub record Running (s : Settings) (lent : List ℕ) (state : State) : Type 0 where

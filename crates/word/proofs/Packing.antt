@@ -1,7 +1,8 @@
 -- Packing and unpacking tell document 01's numbers, and undo each other, as the rules of the entry points say them. Assumes nothing.
-use Rattle.std.proofs.Common.{◌≡◌, ℕ, ◌^◌, ◌<◌, Bool, true, false, cond, ◌&&◌, ltb, leb, [], ◌∷◌, sym, refl, ap, ◌∙◌, ltb-true, lt-ltb, leb-true, Result, Ok, Err}
+use Rattle.std.proofs.Common.{◌≡◌, ℕ, ◌^◌, ◌<◌, Bool, true, false, cond, ◌&&◌, ltb, leb, [], ◌∷◌, sym, refl, ap, ◌∙◌, ltb-true, lt-ltb, leb-true, List, Result, Ok, Err}
 use Rattle.word.proofs.Laws.{tag_word, value_word, word_parts, value_lt, tag_lt}
 use Rattle.word.specs.Packing.{pack_rule, unpack_rule, packed_told, unpacked_told}
+use Rattle.word.specs.Refusals.{told_number, told as told_by}
 use Rattle.word.specs.Statements.{PackingTold, NumberTold, PackingUndone}
 use Rattle.word.specs.Word.{bits_fit, tag_limit, value_limit, word, tag_of, value_of}
 use Rattle.word.specs.declared.Parts.{Parts}
@@ -29,8 +30,16 @@ told =
     unpacking false tag value = refl
 
 pub number_told : NumberTold
-number_told A values (Ok answer) = refl
-number_told A values (Err refusal) = refl
+number_told =
+    record {
+      any = any;
+      packing = any ℕ (λ w. w ∷ []);
+      unpacking = any Parts (λ parts. parts.tag ∷ parts.value ∷ []);
+    }
+  where
+    any : (A : Type 0) (values : A → List ℕ) (answer : Result A Refusal) → told_number answer ≡ (told_by values answer).0
+    any A values (Ok answer) = refl
+    any A values (Err refusal) = refl
 
 -- unpacking a packed word gives its parts
 pub packed_unpacks : (b tag value w : ℕ)

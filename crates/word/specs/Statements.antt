@@ -18,9 +18,11 @@ pub record PackingTold : Type 0 where
   pub unpacking : (b w : ℕ)
       → unpacked_told (unpack_rule b w) ≡ (if bits_fit b then (0, tag_of b w ∷ value_of b w ∷ []) else (1, []))
 
--- the number alone is the number that is told, whatever the values
-abbrev pub NumberTold : Type 1
-NumberTold = (A : Type 0) (values : A → List ℕ) (answer : Result A Refusal) → told_number answer ≡ (told values answer).0
+-- the number alone is the number that is told, whatever the values: so by packing, and by unpacking
+pub record NumberTold : Type 1 where
+  pub any : (A : Type 0) (values : A → List ℕ) (answer : Result A Refusal) → told_number answer ≡ (told values answer).0
+  pub packing : (answer : Result ℕ Refusal) → told_number answer ≡ (packed_told answer).0
+  pub unpacking : (answer : Result Parts Refusal) → told_number answer ≡ (unpacked_told answer).0
 
 -- packing and unpacking undo each other
 pub record PackingUndone : Type 0 where

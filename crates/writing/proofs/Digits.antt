@@ -30,7 +30,7 @@ more_last n a g l e =
     let z : length (a ++ ((48 + n % 10) ∷ [])) ≡ suc (length a) = omega (arith, length-append a ((48 + n % 10) ∷ [])) in
     rw z (ap (λ (b : List ℕ). b ++ ((48 + n % 10) ∷ [])) e)
 
-decimal_last : (n : ℕ) → n < 2 ^ 64 → AllLast n (decimal n)
+pub decimal_last : (n : ℕ) → n < 2 ^ 64 → AllLast n (decimal n)
 decimal_last n h = (by_digits AllLast one_last more_last 20 n (omega arith) (omega arith)).0
 
 -- before the first turn every digit is left to put

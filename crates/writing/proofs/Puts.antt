@@ -9,7 +9,7 @@ use borrow.Rule.Slice.PartMut.{put_mid}
 use Rattle.std.proofs.Common.{take, append_assoc}
 use Rattle.std.proofs.lemmas.List.Edits.{sets-eq, paste_all}
 use Rattle.std.proofs.lemmas.Slice.{put_mid-paste}
-use Rattle.writing.specs.Put.{SameLent, Puts}
+use Rattle.writing.specs.Put.{Put, SameLent, Puts}
 use Rattle.writing.specs.declared.writer.Writer.{Writer}
 
 -- bytes copied over a part of the list as long as they are
@@ -33,11 +33,12 @@ pub same_then : {w v u : Writer} → SameLent w v → SameLent v u → SameLent 
 same_then p q = record { name = q.name ∙ p.name; long = q.long ∙ p.long }
 
 -- what is put, then what is put after it
-pub then : {w : Writer} {a : List ℕ} {v : Writer} {b : List ℕ} {u : Writer} → Puts w a v → Puts v b u → Puts w (a ++ b) u
-then {w} {a} {v} {b} p q = record {
-  written = record {
-    list = q.written.list ∙ (rw (p.written.list, p.written.place) (sets_more w.bytes.now a b w.len));
-    place = omega (arith, p.written.place, q.written.place, length-append a b);
-  };
-  same = same_then p.same q.same;
+pub put_then : {l : List ℕ} {i : ℕ} {a m : List ℕ} {j : ℕ} {b n : List ℕ} {k : ℕ} → Put l i a m j → Put m j b n k → Put l i (a ++ b) n k
+put_then {l} {i} {a} {m} {j} {b} p q = record {
+  list = q.list ∙ (rw (p.list, p.place) (sets_more l a b i));
+  place = omega (arith, p.place, q.place, length-append a b);
 }
+
+-- .. by a writer
+pub then : {w : Writer} {a : List ℕ} {v : Writer} {b : List ℕ} {u : Writer} → Puts w a v → Puts v b u → Puts w (a ++ b) u
+then p q = record { written = put_then p.written q.written; same = same_then p.same q.same }
