@@ -1,5 +1,5 @@
--- The kit's words for lists, options and results that specs/ here and in the crates above use: what each comes to, so that its
--- definition need not be believed. Assumes nothing.
+-- The kit's words for lists, options and results that specs/ of the crates above use: what each comes to, so that its definition
+-- need not be believed. Assumes nothing.
 use Rattle.std.proofs.Common.{◌≡◌, ℕ, Bool, true, ◌&&◌, List, [], ◌∷◌, refl, Result, Ok, Err}
 use Rattle.std.specs.Prelude.{Option, Some, None}
 use Rattle.std.specs.List.{list_all}
